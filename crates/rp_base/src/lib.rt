@@ -1,0 +1,21 @@
+//! What every crate of the product speaks of: plain values, values with references, identities, handlers, rules,
+//! exception kinds, and the limits on values.
+#![tactic(auto)]
+
+mod ends;
+mod exceptions;
+mod handlers;
+mod identity;
+mod operators;
+mod plain;
+mod rules;
+mod text;
+
+pub use ends::{Failed, NoMemory, OpEnd, Side, TupleEnd};
+pub use exceptions::{Beyond, ExcKind, Raised};
+pub use handlers::Handler;
+pub use identity::{IdPack, Kind};
+pub use operators::{BinaryOp, CmpOp, UnaryOp};
+pub use plain::Plain;
+pub use rules::{Refused, Rule};
+pub use text::{Blob, Text};
