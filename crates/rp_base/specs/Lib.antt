@@ -1,2 +1,6 @@
+pub mod Computing
 pub mod Names
+pub mod PlainLaws
 pub mod PlainValues
+pub mod ValueLaws
+pub mod Values

@@ -10,12 +10,14 @@ mod operators;
 mod plain;
 mod rules;
 mod text;
+mod value;
 
 pub use ends::{Failed, NoMemory, OpEnd, Side, TupleEnd};
 pub use exceptions::{Beyond, ExcKind, Raised};
 pub use handlers::Handler;
 pub use identity::{IdPack, Kind};
 pub use operators::{BinaryOp, CmpOp, UnaryOp};
-pub use plain::Plain;
+pub use plain::{Plain, equal};
 pub use rules::{Refused, Rule};
 pub use text::{Blob, Text};
+pub use value::{Value, depth, weight};
