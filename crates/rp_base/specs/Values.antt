@@ -1,10 +1,14 @@
 -- Values with references: recursion over them, their weight and depth, the plain value that one is, and the tuple of some items.
-use Rattle.std.specs.Prelude.{ℕ, ◌+◌, max, sum, fold, map, List, [], ◌∷◌, Option, Some, None, option_map}
+use Rattle.std.specs.Prelude.{◌≡◌, ℕ, ◌+◌, max, sum, fold, map, List, [], ◌∷◌, Option, Some, None, Result, Ok, Err, option_map, nat_lt, if◌then◌else◌}
 use Rattle.rp_base.specs.PlainValues.{plain_weight, plain_depth}
 use Rattle.rp_base.specs.declared.plain.Plain.{Plain}
 use Rattle.rp_base.specs.declared.plain.Plain.TheVariants as plain
 use Rattle.rp_base.specs.declared.value.Value.{Value}
+use Rattle.rp_base.specs.declared.ends.TupleEnd.{TupleEnd}
+use Rattle.rp_base.specs.declared.ends.TupleEnd.TheVariants as tuple_end
+use Rattle.rp_base.specs.declared.exceptions.Beyond.TheVariants as beyond
 use Rattle.rp_base.specs.declared.value.Value.TheOpen.{Value-F}
+use Rattle.rp_base.specs.declared.value.Value.TheVariants as value
 use Rattle.rp_base.specs.declared.value.Value.TheFolds.{family, steps}
 use Rattle.rp_base.specs.declared.value.Value.TheBlock.{view-Value, laid-Value}
 
@@ -51,3 +55,27 @@ plain_of = gather_value (Option Plain) plain_step
 -- the plain values that these are, or none where a reference stands in one of them
 abbrev pub plains_of : List Value → Option (List Plain)
 plains_of items = all_there (map plain_of items)
+
+-- what Python's tuple of these items is: a plain value where no reference stands in them
+abbrev pub joined : List Value → Value
+joined items = elim (plains_of items) [ Some ps ↦ value.Plain (plain.Tuple ps) | None ↦ value.Tuple items ]
+
+-- the greatest weight of a tuple, and the greatest depth
+abbrev pub heaviest_value : ℕ
+heaviest_value = 1048576
+
+abbrev pub deepest_tuple : ℕ
+deepest_tuple = 32
+
+-- the tuple of these items, or the limit that it passes: the weight counts first
+abbrev pub tuple_of : List Value → Result Value TupleEnd
+tuple_of items =
+    if nat_lt heaviest_value (1 + sum (map weight_of items)) then Err (tuple_end.Beyond beyond.Size)
+    else (if nat_lt deepest_tuple (1 + fold max 0 (map depth_of items)) then Err (tuple_end.Beyond beyond.Depth)
+    else Ok (joined items))
+
+-- an answer, but for want of memory
+abbrev pub OrNoMemory : Result Value TupleEnd → Result Value TupleEnd → Type 0
+OrNoMemory (Ok v) wanted = Ok v ≡ wanted
+OrNoMemory (Err (tuple_end.Beyond b)) wanted = Err (tuple_end.Beyond b) ≡ wanted
+OrNoMemory (Err tuple_end.NoMemory) wanted = Unit

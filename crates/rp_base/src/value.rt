@@ -1,11 +1,18 @@
 ghost use Rattle.std.specs.Prelude.{◌≡◌, ◌+◌, ◌-◌, ◌^◌, min, max, map, sum, fold, IfOk};
-ghost use Rattle.rp_base.specs.Values.{weight_of, depth_of};
+ghost use Rattle.rp_base.specs.Values.{weight_of, depth_of, plain_of, plains_of, tuple_of, OrNoMemory};
 
-use crate::ends::NoMemory;
+use crate::ends::{NoMemory, TupleEnd};
+use crate::exceptions::Beyond;
 use crate::identity::IdPack;
 use crate::plain::Plain;
 use sqlite_items::Items;
 use std::alloc::Global;
+
+/// The greatest weight of a tuple.
+pub const HEAVIEST_VALUE: u64 = 1_048_576;
+
+/// The greatest depth of a tuple.
+pub const DEEPEST_TUPLE: u32 = 32;
 
 /// A value of the language: a plain value, a tuple that holds a reference at some depth, a reference to a cell of
 /// one's own side by its number, or a reference to a cell of the other side by its identity.
@@ -95,4 +102,52 @@ fn depth_all(items: &[Value]) -> u32
         deepest = deepest.max(depth(item));
     }
     deepest.saturating_add(1)
+}
+
+/// The tuple of these items: a plain value where no reference stands in them. `Beyond::Size` where its weight passes
+/// `HEAVIEST_VALUE`, and else `Beyond::Depth` where its depth passes `DEEPEST_TUPLE`.
+pub fn make_tuple(alloc: Global, items: Items<Value>) -> Result<Value, TupleEnd>
+    ensures { OrNoMemory result (tuple_of items) }
+{
+    if weight_all(items.as_slice()) > HEAVIEST_VALUE {
+        return Err(TupleEnd::Beyond(Beyond::Size));
+    }
+    if depth_all(items.as_slice()) > DEEPEST_TUPLE {
+        return Err(TupleEnd::Beyond(Beyond::Depth));
+    }
+    match to_plains(alloc, items.as_slice())? {
+        Some(plains) => Ok(Value::Plain(Plain::Tuple(plains))),
+        None => Ok(Value::Tuple(items)),
+    }
+}
+
+/// The plain value that it is, or None where a reference stands in it at any depth.
+#[cycle(plains)]
+#[tactic(auto, using(crate::specs::ValueLaws::plain_of_tuple), unfolding(crate::specs::Values::plain_of))]
+pub fn to_plain(alloc: Global, v: &Value) -> Result<Option<Plain>, NoMemory>
+    ensures { IfOk result (λ p. p ≡ plain_of v.now) }
+{
+    match v {
+        Value::Plain(plain) => Ok(Some(plain.copy(alloc)?)),
+        Value::Own(_) => Ok(None),
+        Value::Proxy(_) => Ok(None),
+        Value::Tuple(items) => match to_plains(alloc, items.as_slice())? {
+            Some(plains) => Ok(Some(Plain::Tuple(plains))),
+            None => Ok(None),
+        },
+    }
+}
+
+#[cycle(plains)]
+fn to_plains(alloc: Global, items: &[Value]) -> Result<Option<Items<Plain>>, NoMemory>
+    ensures { IfOk result (λ ps. ps ≡ plains_of items.now) }
+{
+    let mut all = Items::new(alloc);
+    for item in items {
+        match to_plain(alloc, item)? {
+            Some(plain) => all.push(plain)?,
+            None => return Ok(None),
+        }
+    }
+    Ok(Some(all))
 }
