@@ -1,5 +1,5 @@
 -- The kind of cell that an identity names.
-use Rattle.std.specs.Prelude.{ℕ, ◌==◌, Bool, List, [], ◌∷◌, codes, if◌then◌else◌}
+use Rattle.std.specs.Prelude.{ℕ, ◌==◌, List, [], ◌∷◌, codes, if◌then◌else◌}
 use Rattle.std.specs.Str.{bytes_eq}
 use Rattle.rp_base.specs.declared.identity.Kind.{Kind}
 use Rattle.rp_base.specs.declared.identity.Kind.TheVariants as kind
@@ -7,18 +7,18 @@ use Rattle.rp_base.specs.declared.identity.Kind.TheVariants as kind
 -- the kinds that the name of the class tells alone
 abbrev pub named_kinds : List (List ℕ × Kind)
 named_kinds =
-  (codes "builtins.list", kind.List) ∷
-  (codes "builtins.range", kind.Range) ∷
-  (codes "builtins.function", kind.Function) ∷
-  (codes "builtins.method", kind.Bound) ∷
-  (codes "builtins.iterator", kind.Iter) ∷
-  (codes "builtins.view", kind.View) ∷
-  (codes "builtins.module", kind.Host) ∷
-  (codes "builtins.hostfunc", kind.HostFunc) ∷
-  (codes "rpyc.core.service.SlaveService", kind.Root) ∷
-  (codes "rpyc.core.protocol.Connection", kind.Conn) ∷
-  (codes "rpyc.core.service.ModuleNamespace", kind.Modules) ∷
-  []
+    (codes "builtins.list", kind.List) ∷
+    (codes "builtins.range", kind.Range) ∷
+    (codes "builtins.function", kind.Function) ∷
+    (codes "builtins.method", kind.Bound) ∷
+    (codes "builtins.iterator", kind.Iter) ∷
+    (codes "builtins.view", kind.View) ∷
+    (codes "builtins.module", kind.Host) ∷
+    (codes "builtins.hostfunc", kind.HostFunc) ∷
+    (codes "rpyc.core.service.SlaveService", kind.Root) ∷
+    (codes "rpyc.core.protocol.Connection", kind.Conn) ∷
+    (codes "rpyc.core.service.ModuleNamespace", kind.Modules) ∷
+    []
 
 -- the kind beside the name, or else another one
 abbrev pub kind_beside : List ℕ → Kind → List (List ℕ × Kind) → Kind

@@ -1,4 +1,5 @@
 pub mod Computing
+pub mod EqualLaws
 pub mod Identity
 pub mod Names
 pub mod PlainLaws

@@ -9,6 +9,8 @@ mod identity;
 mod operators;
 mod plain;
 mod rules;
+#[cfg(test)]
+mod tests;
 mod text;
 mod value;
 
