@@ -4,5 +4,6 @@ pub mod Identity
 pub mod Names
 pub mod PlainLaws
 pub mod PlainValues
+pub mod TupleLaws
 pub mod ValueLaws
 pub mod Values

@@ -56,9 +56,14 @@ plain_of = gather_value (Option Plain) plain_step
 abbrev pub plains_of : List Value → Option (List Plain)
 plains_of items = all_there (map plain_of items)
 
+-- a plain tuple of these plain values where they are there, else the tuple of these items
+abbrev pub choose : Option (List Plain) → List Value → Value
+choose (Some ps) items = value.Plain (plain.Tuple ps)
+choose None items = value.Tuple items
+
 -- what Python's tuple of these items is: a plain value where no reference stands in them
 abbrev pub joined : List Value → Value
-joined items = elim (plains_of items) [ Some ps ↦ value.Plain (plain.Tuple ps) | None ↦ value.Tuple items ]
+joined items = choose (plains_of items) items
 
 -- the greatest weight of a tuple, and the greatest depth
 abbrev pub heaviest_value : ℕ
