@@ -68,6 +68,15 @@ take_four (a ∷ b ∷ []) h = absurd (omega arith)
 take_four (a ∷ b ∷ c ∷ []) h = absurd (omega arith)
 take_four (a ∷ b ∷ c ∷ d ∷ s) h = refl
 
+-- by the number that the first four bytes are
+pub front-numbered : (s : List ℕ) (n : ℕ) → 5 ≤ length s → n ≡ from_be_bytes w32 (get_or s 0 0 ∷ get_or s 1 0 ∷ get_or s 2 0 ∷ get_or s 3 0 ∷ []) → front s ≡ judged n (get_or s 4 0) (drop 5 s)
+front-numbered s n h e =
+    let number : from_be_bytes w32 (take 4 s) ≡ n = ap (λ (t : List ℕ). from_be_bytes w32 t) (take_four s h) ∙ sym e in
+    front-judged s h ∙ ap (λ (k : ℕ). judged k (get_or s 4 0) (drop 5 s)) number
+
+pub from_judged : (x y : Front) → x ≡ y → IsFaulty y → IsFaulty x
+from_judged x y e h = subst IsFaulty (sym e) h
+
 -- ---- the laws
 
 pub front-whole : (body rest : List ℕ) → length body ≤ LONGEST → front (frame_of body ++ rest) ≡ Whole body rest
