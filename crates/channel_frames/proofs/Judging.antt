@@ -1,11 +1,10 @@
 -- What stands in front of a stream, by its first bytes, and the laws of frames.
-use Rattle.std.proofs.Common.{◌≡◌, ◌≢◌, ℕ, zero, suc, ◌+◌, ◌-◌, ◌^◌, ◌<◌, ◌≤◌, Bool, true, false, cond, eqb, ltb, List, [], ◌∷◌, ◌++◌, length, get_or, take, drop, refl, sym, ap, subst, ◌∙◌, append_assoc, arith, inl, inr}
+use Rattle.std.proofs.Common.{◌≡◌, ◌≢◌, ℕ, zero, suc, ◌+◌, ◌<◌, ◌≤◌, Bool, true, false, cond, eqb, ltb, List, [], ◌∷◌, ◌++◌, length, get_or, take, drop, refl, sym, ap, subst, ◌∙◌, append_assoc, arith}
 use Rattle.std.specs.Int.{w32, from_be_bytes, to_be_bytes}
 use Rattle.std.proofs.lemmas.Bool.{ltb-false, ltb-true, le-ltb, lt-ltb, eqb-true, eq-eqb, ne_eqb}
 use Rattle.std.proofs.lemmas.List.{take_at, drop_at, take-append-drop, length-append, length-take, get_or_at, drop_more}
 use Rattle.std.proofs.lemmas.Nat.{be_bytes_4, from_be_bytes-to_be_bytes_4}
-use Rattle.channel_frames.specs.declared.framing.TheConstants.{LONGEST}
-use Rattle.channel_frames.specs.Frames.{front, judged, frame_of, IsBytes, IsFaulty, Front, Whole, Part, Faulty, TooLong, Compressed, BadFlag, BadFlusher}
+use Rattle.channel_frames.specs.Frames.{front, judged, frame_of, IsBytes, IsFaulty, longest, Front, Whole, Part, Faulty, TooLong, Compressed, BadFlag, BadFlusher}
 
 -- ---- by the length, the flag and the bytes behind
 
@@ -36,20 +35,20 @@ chosen-whole false false true false e x body rest h = absurd cc
 chosen-whole false false true true false x body rest h = absurd cc
 chosen-whole false false true true true x body rest h = record { short = refl; plain = refl; there = refl; flushed = refl; same = h }
 
-pub judged-too_long : (n f : ℕ) (r : List ℕ) → LONGEST < n → IsFaulty (judged n f r)
-judged-too_long n f r h = rw (lt-ltb LONGEST n h) tt
+pub judged-too_long : (n f : ℕ) (r : List ℕ) → longest < n → IsFaulty (judged n f r)
+judged-too_long n f r h = rw (lt-ltb longest n h) tt
 
 pub judged-flagged : (n f : ℕ) (r : List ℕ) → (f ≡ 0 → ⊥) → IsFaulty (judged n f r)
-judged-flagged n f r h = rw (ne_eqb f 0 h) (chosen-faulty (ltb LONGEST n) (eqb f 1) (ltb n (length r)) (eqb (get_or r n 0) 10) (Whole (take n r) (drop (n + 1) r)))
+judged-flagged n f r h = rw (ne_eqb f 0 h) (chosen-faulty (ltb longest n) (eqb f 1) (ltb n (length r)) (eqb (get_or r n 0) 10) (Whole (take n r) (drop (n + 1) r)))
 
-pub judged-part : (n f : ℕ) (r : List ℕ) → n ≤ LONGEST → f ≡ 0 → length r ≤ n → judged n f r ≡ Part
-judged-part n f r h z s = rw (z, le-ltb LONGEST n h, le-ltb n (length r) s) refl
+pub judged-part : (n f : ℕ) (r : List ℕ) → n ≤ longest → f ≡ 0 → length r ≤ n → judged n f r ≡ Part
+judged-part n f r h z s = rw (z, le-ltb longest n h, le-ltb n (length r) s) refl
 
-pub judged-not_flushed : (n f : ℕ) (r : List ℕ) → n ≤ LONGEST → f ≡ 0 → n < length r → (get_or r n 0 ≡ 10 → ⊥) → IsFaulty (judged n f r)
-judged-not_flushed n f r h z s e = rw (z, le-ltb LONGEST n h, lt-ltb n (length r) s, ne_eqb (get_or r n 0) 10 e) tt
+pub judged-not_flushed : (n f : ℕ) (r : List ℕ) → n ≤ longest → f ≡ 0 → n < length r → (get_or r n 0 ≡ 10 → ⊥) → IsFaulty (judged n f r)
+judged-not_flushed n f r h z s e = rw (z, le-ltb longest n h, lt-ltb n (length r) s, ne_eqb (get_or r n 0) 10 e) tt
 
-pub judged-whole : (n f : ℕ) (r : List ℕ) → n ≤ LONGEST → f ≡ 0 → n < length r → get_or r n 0 ≡ 10 → judged n f r ≡ Whole (take n r) (drop (n + 1) r)
-judged-whole n f r h z s e = rw (z, le-ltb LONGEST n h, lt-ltb n (length r) s, eq-eqb (get_or r n 0) 10 e) refl
+pub judged-whole : (n f : ℕ) (r : List ℕ) → n ≤ longest → f ≡ 0 → n < length r → get_or r n 0 ≡ 10 → judged n f r ≡ Whole (take n r) (drop (n + 1) r)
+judged-whole n f r h z s e = rw (z, le-ltb longest n h, lt-ltb n (length r) s, eq-eqb (get_or r n 0) 10 e) refl
 
 -- ---- by the first bytes
 
@@ -79,7 +78,7 @@ from_judged x y e h = subst IsFaulty (sym e) h
 
 -- ---- the laws
 
-pub front-whole : (body rest : List ℕ) → length body ≤ LONGEST → front (frame_of body ++ rest) ≡ Whole body rest
+pub front-whole : (body rest : List ℕ) → length body ≤ longest → front (frame_of body ++ rest) ≡ Whole body rest
 unfolding frame_of
 front-whole body rest h =
     let tail : (body ++ 10 ∷ []) ++ rest ≡ body ++ 10 ∷ rest = append_assoc body (10 ∷ []) rest in
@@ -105,11 +104,11 @@ whole_rest a b c d h = cc
 
 -- what was judged a frame: its cells
 abbrev Spelled : ℕ → ℕ → List ℕ → List ℕ → List ℕ → Type 0
-Spelled n f r body rest = (n ≤ LONGEST) × (f ≡ 0) × (length body ≡ n) × (r ≡ (body ++ 10 ∷ []) ++ rest)
+Spelled n f r body rest = (n ≤ longest) × (f ≡ 0) × (length body ≡ n) × (r ≡ (body ++ 10 ∷ []) ++ rest)
 
 judged-spelled : (n f : ℕ) (r body rest : List ℕ) → judged n f r ≡ Whole body rest → Spelled n f r body rest
 judged-spelled n f r body rest h =
-    let p = chosen-whole (ltb LONGEST n) (eqb f 1) (eqb f 0) (ltb n (length r)) (eqb (get_or r n 0) 10) (Whole (take n r) (drop (n + 1) r)) body rest h in
+    let p = chosen-whole (ltb longest n) (eqb f 1) (eqb f 0) (ltb n (length r)) (eqb (get_or r n 0) 10) (Whole (take n r) (drop (n + 1) r)) body rest h in
     let there : n < length r = ltb-true n (length r) p.there in
     let last : get_or r n 0 ≡ 10 = eqb-true (get_or r n 0) 10 p.flushed in
     let body_is : take n r ≡ body = whole_body (take n r) (drop (n + 1) r) body rest p.same in
@@ -117,7 +116,7 @@ judged-spelled n f r body rest h =
     let len : length (take n r) ≡ n = omega (arith, length-take n r) in
     let behind : drop n r ≡ 10 ∷ rest = drop_more r n 0 there ∙ ap (λ (x : ℕ). x ∷ drop (n + 1) r) last ∙ ap (λ (t : List ℕ). 10 ∷ t) rest_is in
     let parts : r ≡ body ++ 10 ∷ rest = sym (take-append-drop n r) ∙ ap (λ (t : List ℕ). t ++ drop n r) body_is ∙ ap (λ (t : List ℕ). body ++ t) behind in
-    (ltb-false LONGEST n p.short, eqb-true f 0 p.plain, sym (ap (λ (t : List ℕ). length t) body_is) ∙ len, parts ∙ sym (append_assoc body (10 ∷ []) rest))
+    (ltb-false longest n p.short, eqb-true f 0 p.plain, sym (ap (λ (t : List ℕ). length t) body_is) ∙ len, parts ∙ sym (append_assoc body (10 ∷ []) rest))
 
 part_or_whole : (body rest : List ℕ) → Part ≡ Whole body rest → ⊥
 part_or_whole body rest h = cc
@@ -129,7 +128,7 @@ four_fit a b c d p q r s (suc (suc zero)) = r
 four_fit a b c d p q r s (suc (suc (suc zero))) = s
 four_fit a b c d p q r s (suc (suc (suc (suc i)))) = omega arith
 
-pub front-only : (s body rest : List ℕ) → IsBytes s → front s ≡ Whole body rest → (s ≡ frame_of body ++ rest) × (length body ≤ LONGEST)
+pub front-only : (s body rest : List ℕ) → IsBytes s → front s ≡ Whole body rest → (s ≡ frame_of body ++ rest) × (length body ≤ longest)
 unfolding frame_of
 front-only [] body rest fits h = absurd (part_or_whole body rest (sym (front-short [] (omega arith)) ∙ h))
 front-only (a ∷ []) body rest fits h = absurd (part_or_whole body rest (sym (front-short (a ∷ []) (omega arith)) ∙ h))
@@ -142,14 +141,14 @@ front-only (a ∷ b ∷ c ∷ d ∷ f ∷ r) body rest fits h =
     let g = judged-spelled n f r body rest (sym (front-judged (a ∷ b ∷ c ∷ d ∷ f ∷ r) (omega arith)) ∙ h) in
     let head_is : to_be_bytes w32 (length body) ≡ a ∷ b ∷ c ∷ d ∷ [] = be_bytes_4 (a ∷ b ∷ c ∷ d ∷ []) (length body) refl (four_fit a b c d (fits 0) (fits 1) (fits 2) (fits 3)) g.2 in
     let flag_is : f ∷ r ≡ 0 ∷ ((body ++ 10 ∷ []) ++ rest) = ap (λ (x : ℕ). x ∷ r) g.1 ∙ ap (λ (t : List ℕ). 0 ∷ t) g.3 in
-    let long : length body ≤ LONGEST = omega (arith, g.0, g.2) in
+    let long : length body ≤ longest = omega (arith, g.0, g.2) in
     (ap (λ (t : List ℕ). (a ∷ b ∷ c ∷ d ∷ []) ++ t) flag_is ∙ ap (λ (t : List ℕ). t ++ 0 ∷ ((body ++ 10 ∷ []) ++ rest)) (sym head_is), long)
 
 some_length : (xs : List ℕ) → xs ≢ [] → 0 < length xs
 some_length [] h = absurd (h refl)
 some_length (x ∷ xs) h = omega arith
 
-pub front-part : (body given missing : List ℕ) → length body ≤ LONGEST → frame_of body ≡ given ++ missing → missing ≢ [] → front given ≡ Part
+pub front-part : (body given missing : List ℕ) → length body ≤ longest → frame_of body ≡ given ++ missing → missing ≢ [] → front given ≡ Part
 unfolding frame_of
 front-part body [] missing l h m = front-short [] (omega arith)
 front-part body (a ∷ []) missing l h m = front-short (a ∷ []) (omega arith)

@@ -1,7 +1,6 @@
 -- Frames, and what the bytes of a stream have in front.
 use Rattle.std.specs.Prelude.{◌≡◌, ℕ, ◌+◌, ◌<◌, ◌≤◌, List, [], ◌∷◌, ◌++◌, length, take, drop, slice_index, nat_lt, ◌==◌, if◌then◌else◌, Option, Some, None, Result, Ok, Err}
 use Rattle.std.specs.Int.{w32, to_be_bytes, from_be_bytes}
-use Rattle.channel_frames.specs.declared.framing.TheConstants.{LONGEST}
 use Rattle.channel_frames.specs.declared.fault.FrameFault.{FrameFault}
 use Rattle.channel_frames.specs.declared.fault.FrameFault.TheVariants.{NotBuilt, NoMemory}
 
@@ -25,10 +24,14 @@ pub data Front : Type 0 where
   Part : Front
   Faulty : Fault → Front
 
+-- the greatest length of a frame's data: 64 MiB
+abbrev pub longest : ℕ
+longest = 67108864
+
 -- by the length, the flag and the bytes behind them
 abbrev pub judged : ℕ → ℕ → List ℕ → Front
 judged n flag rest =
-    if nat_lt LONGEST n then Faulty TooLong
+    if nat_lt longest n then Faulty TooLong
     else if flag == 1 then Faulty Compressed
     else if flag == 0 then
       (if nat_lt n (length rest) then

@@ -83,7 +83,8 @@ fn body_length(waiting: &[u8]) -> Result<Option<usize>, FrameFault>
         return Ok(None);
     }
     let length = u32::from_be_bytes([waiting[0], waiting[1], waiting[2], waiting[3]]) as usize;
-    if length > LONGEST || waiting[4] != PLAIN {
+    let flag = waiting[4];
+    if length > LONGEST || flag != PLAIN {
         return Err(FrameFault::NotBuilt);
     }
     let rest = &waiting[HEADER..];
