@@ -17,9 +17,6 @@ chosen-faulty true z m e x = tt
 chosen-faulty false true m e x = tt
 chosen-faulty false false m e x = tt
 
-chosen-long : (z p m e : Bool) (x : Front) → IsFaulty (chosen true z p m e x)
-chosen-long z p m e x = tt
-
 record Picked (l p m e : Bool) (x w : Front) : Type 0 where
   short : l ≡ false
   plain : p ≡ true
@@ -90,11 +87,11 @@ front-whole body rest h =
     let front_len : length (body ++ 10 ∷ []) ≡ length body + 1 = length-append body (10 ∷ []) in
     let rest_is : drop (length body + 1) (body ++ 10 ∷ rest) ≡ rest = rw regrouped (drop_at (body ++ 10 ∷ []) rest (length body + 1) front_len) in
     front-judged (frame_of body ++ rest) (omega arith)
-      ∙ ap (λ (t : List ℕ). judged (from_be_bytes w32 (to_be_bytes w32 (length body))) 0 t) tail
-      ∙ ap (λ (n : ℕ). judged n 0 (body ++ 10 ∷ rest)) n-is
-      ∙ judged-whole (length body) 0 (body ++ 10 ∷ rest) h refl len last
-      ∙ ap (λ (t : List ℕ). Whole t (drop (length body + 1) (body ++ 10 ∷ rest))) data_is
-      ∙ ap (λ (t : List ℕ). Whole body t) rest_is
+    ∙ ap (λ (t : List ℕ). judged (from_be_bytes w32 (to_be_bytes w32 (length body))) 0 t) tail
+    ∙ ap (λ (n : ℕ). judged n 0 (body ++ 10 ∷ rest)) n-is
+    ∙ judged-whole (length body) 0 (body ++ 10 ∷ rest) h refl len last
+    ∙ ap (λ (t : List ℕ). Whole t (drop (length body + 1) (body ++ 10 ∷ rest))) data_is
+    ∙ ap (λ (t : List ℕ). Whole body t) rest_is
 
 whole_body : (a b c d : List ℕ) → Whole a b ≡ Whole c d → a ≡ c
 whole_body a b c d h = cc
@@ -164,5 +161,5 @@ front-part body (a ∷ b ∷ c ∷ d ∷ f ∷ r) missing l h m =
     let missed : 0 < length missing = some_length missing m in
     let fewer : length r ≤ length body = omega (arith, ap (λ (t : List ℕ). length t) tail_is, length-append body (10 ∷ []), length-append r missing) in
     front-judged (a ∷ b ∷ c ∷ d ∷ f ∷ r) (omega arith)
-      ∙ ap (λ (n : ℕ). judged n f r) number
-      ∙ judged-part (length body) f r l (sym flag_is) fewer
+    ∙ ap (λ (n : ℕ). judged n f r) number
+    ∙ judged-part (length body) f r l (sym flag_is) fewer

@@ -34,9 +34,9 @@ judged n flag rest =
     if nat_lt longest n then Faulty TooLong
     else if flag == 1 then Faulty Compressed
     else if flag == 0 then
-      (if nat_lt n (length rest) then
-        (if slice_index rest n == 10 then Whole (take n rest) (drop (n + 1) rest) else Faulty BadFlusher)
-      else Part)
+    (if nat_lt n (length rest) then
+    (if slice_index rest n == 10 then Whole (take n rest) (drop (n + 1) rest) else Faulty BadFlusher)
+    else Part)
     else Faulty BadFlag
 
 unfoldable pub front : List ℕ → Front

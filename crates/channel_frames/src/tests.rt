@@ -39,7 +39,11 @@ fn frames_come_in_any_pieces(rt: HostRuntime) -> Result<(), Fail> {
 fn faults_and_parts(rt: HostRuntime) -> Result<(), Fail> {
     let alloc = rt.alloc();
     // A flag that is none, another last byte, a length above the limit.
-    let faults: [&[u8]; 3] = [&[0, 0, 0, 0, 2], &[0, 0, 0, 1, 0, 0, 0x0b], &[4, 0, 0, 1, 0]];
+    let faults: [&[u8]; 3] = [
+        &[0, 0, 0, 0, 2],
+        &[0, 0, 0, 1, 0, 0, 0x0b],
+        &[4, 0, 0, 1, 0],
+    ];
     for bytes in faults {
         let mut deframer = Deframer::new(alloc);
         deframer.feed(bytes)?;

@@ -14,10 +14,10 @@ returns-then-length-gt-LONGEST c =
     let n = c.from_be_bytes-length.result in
     let is = front-numbered s n c.if-waiting-lt-HEADER.false c.from_be_bytes-length.ensures in
     from_judged (front s) (judged n (get_or s 4 0) (drop 5 s)) is
-      (elim c.then-length-gt-LONGEST.branch [
-        | then-length-gt-LONGEST-via-then-length-gt-LONGEST w ↦ judged-too_long n (get_or s 4 0) (drop 5 s) (omega (arith, w.if-length-gt-LONGEST.true))
-        | then-length-gt-LONGEST-via-else-length-gt-LONGEST+then-flag-ne-PLAIN w ↦ judged-flagged n (get_or s 4 0) (drop 5 s) w.if-flag-ne-PLAIN.true
-      ])
+    (elim c.then-length-gt-LONGEST.branch [
+      | then-length-gt-LONGEST-via-then-length-gt-LONGEST w ↦ judged-too_long n (get_or s 4 0) (drop 5 s) (omega (arith, w.if-length-gt-LONGEST.true))
+      | then-length-gt-LONGEST-via-else-length-gt-LONGEST+then-flag-ne-PLAIN w ↦ judged-flagged n (get_or s 4 0) (drop 5 s) w.if-flag-ne-PLAIN.true
+    ])
 
 pub returns-then-rest-length : goal.returns-then-rest-length
 returns-then-rest-length c =
@@ -25,7 +25,7 @@ returns-then-rest-length c =
     let n = c.from_be_bytes-length.result in
     let all : length (drop 5 s) ≤ n = omega (arith, ap (λ (t : List ℕ). length t) (take_rest s 5)) in
     front-numbered s n c.if-waiting-lt-HEADER.false c.from_be_bytes-length.ensures
-      ∙ judged-part n (get_or s 4 0) (drop 5 s) c.if-length-gt-LONGEST.false c.if-flag-ne-PLAIN.false all
+    ∙ judged-part n (get_or s 4 0) (drop 5 s) c.if-length-gt-LONGEST.false c.if-flag-ne-PLAIN.false all
 
 pub returns-then-rest-length-ne-FLUSHER : goal.returns-then-rest-length-ne-FLUSHER
 returns-then-rest-length-ne-FLUSHER c =
@@ -34,7 +34,7 @@ returns-then-rest-length-ne-FLUSHER c =
     let all : n < length (drop 5 s) = omega (arith, ap (λ (t : List ℕ). length t) (take_rest s 5)) in
     let same = ap (λ (t : List ℕ). get_or t n 0) (take_rest s 5) in
     from_judged (front s) (judged n (get_or s 4 0) (drop 5 s)) (front-numbered s n c.if-waiting-lt-HEADER.false c.from_be_bytes-length.ensures)
-      (judged-not_flushed n (get_or s 4 0) (drop 5 s) c.if-length-gt-LONGEST.false c.if-flag-ne-PLAIN.false all (λ e. c.if-rest-length-ne-FLUSHER.true (same ∙ e)))
+    (judged-not_flushed n (get_or s 4 0) (drop 5 s) c.if-length-gt-LONGEST.false c.if-flag-ne-PLAIN.false all (λ e. c.if-rest-length-ne-FLUSHER.true (same ∙ e)))
 
 pub returns : goal.returns
 returns c =
@@ -42,7 +42,9 @@ returns c =
     let n = c.from_be_bytes-length.result in
     let all : n < length (drop 5 s) = omega (arith, ap (λ (t : List ℕ). length t) (take_rest s 5)) in
     let last : get_or (drop 5 s) n 0 ≡ 10 = sym (ap (λ (t : List ℕ). get_or t n 0) (take_rest s 5)) ∙ c.if-rest-length-ne-FLUSHER.false in
-    let behind : drop (n + 1) (drop 5 s) ≡ drop (n + 6) s = drop-drop (n + 1) 5 s ∙ ap (λ (k : ℕ). drop k s) (omega arith) in
-    (omega (arith, length-drop 5 s), front-numbered s n c.if-waiting-lt-HEADER.false c.from_be_bytes-length.ensures
-      ∙ judged-whole n (get_or s 4 0) (drop 5 s) c.if-length-gt-LONGEST.false c.if-flag-ne-PLAIN.false all last
-      ∙ ap (λ (t : List ℕ). Whole (take n (drop 5 s)) t) behind)
+    let behind : drop (n + 1) (drop 5 s) ≡ drop (n + 6) s = drop-drop (n + 1) 5 s ∙ ap (λ (k : ℕ). drop k s) (omega arith) in (
+      omega (arith, length-drop 5 s),
+      front-numbered s n c.if-waiting-lt-HEADER.false c.from_be_bytes-length.ensures
+          ∙ judged-whole n (get_or s 4 0) (drop 5 s) c.if-length-gt-LONGEST.false c.if-flag-ne-PLAIN.false all last
+          ∙ ap (λ (t : List ℕ). Whole (take n (drop 5 s)) t) behind,
+    )
