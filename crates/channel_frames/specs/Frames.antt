@@ -1,0 +1,68 @@
+-- Frames, and what the bytes of a stream have in front.
+use Rattle.std.specs.Prelude.{◌≡◌, ℕ, ◌+◌, ◌<◌, ◌≤◌, List, [], ◌∷◌, ◌++◌, length, take, drop, slice_index, nat_lt, ◌==◌, if◌then◌else◌, Option, Some, None, Result, Ok, Err}
+use Rattle.std.specs.Int.{w32, to_be_bytes, from_be_bytes}
+use Rattle.channel_frames.specs.declared.fault.FrameFault.{FrameFault}
+use Rattle.channel_frames.specs.declared.fault.FrameFault.TheVariants.{NotBuilt, NoMemory}
+
+-- the frame of these data
+unfoldable pub frame_of : List ℕ → List ℕ
+frame_of body = to_be_bytes w32 (length body) ++ 0 ∷ body ++ 10 ∷ []
+
+abbrev pub IsBytes : List ℕ → Type 0
+IsBytes bytes = (i : ℕ) → slice_index bytes i < 256
+
+-- why no frame can be in front
+pub data Fault : Type 0 where
+  TooLong : Fault
+  Compressed : Fault
+  BadFlag : Fault
+  BadFlusher : Fault
+
+-- A frame's data with the bytes after it, or less than a frame, or no frame however the bytes go on.
+pub data Front : Type 0 where
+  Whole : List ℕ → List ℕ → Front
+  Part : Front
+  Faulty : Fault → Front
+
+-- the greatest length of a frame's data: 64 MiB
+abbrev pub longest : ℕ
+longest = 67108864
+
+-- by the length, the flag and the bytes behind them
+abbrev pub judged : ℕ → ℕ → List ℕ → Front
+judged n flag rest =
+    if nat_lt longest n then Faulty TooLong
+    else if flag == 1 then Faulty Compressed
+    else if flag == 0 then
+    (if nat_lt n (length rest) then
+    (if slice_index rest n == 10 then Whole (take n rest) (drop (n + 1) rest) else Faulty BadFlusher)
+    else Part)
+    else Faulty BadFlag
+
+unfoldable pub front : List ℕ → Front
+front bytes = if nat_lt (length bytes) 5 then Part else judged (from_be_bytes w32 (take 4 bytes)) (slice_index bytes 4) (drop 5 bytes)
+
+abbrev pub IsFaulty : Front → Type 0
+IsFaulty (Faulty f) = Unit {0}
+IsFaulty Part = ⊥
+IsFaulty (Whole body rest) = ⊥
+
+-- the length of the data of the frame in front, where a whole one is there
+abbrev pub Judges : Result (Option ℕ) FrameFault → List ℕ → Type 0
+Judges (Ok (Some n)) bytes = (n + 6 ≤ length bytes) × (front bytes ≡ Whole (take n (drop 5 bytes)) (drop (n + 6) bytes))
+Judges (Ok None) bytes = front bytes ≡ Part
+Judges (Err NotBuilt) bytes = IsFaulty (front bytes)
+Judges (Err NoMemory) bytes = ⊥
+
+-- What a read answers by what is in front, with the bytes that waited before and after. The data are seen by view.
+abbrev pub Reads : {X : Type 0} → (X → List ℕ) → Front → Result (Option X) FrameFault → List ℕ → List ℕ → Type 0
+Reads view (Whole body rest) (Ok (Some x)) old new = (view x ≡ body) × (new ≡ rest)
+Reads view (Whole body rest) (Ok None) old new = ⊥
+Reads view (Whole body rest) (Err NoMemory) old new = new ≡ old
+Reads view (Whole body rest) (Err NotBuilt) old new = ⊥
+Reads view Part (Ok (Some x)) old new = ⊥
+Reads view Part (Ok None) old new = new ≡ old
+Reads view Part (Err e) old new = ⊥
+Reads view (Faulty f) (Ok o) old new = ⊥
+Reads view (Faulty f) (Err NoMemory) old new = ⊥
+Reads view (Faulty f) (Err NotBuilt) old new = new ≡ old

@@ -1,0 +1,15 @@
+//! Frames of RPyC's channel, after RPyC's module `channel`: a frame is the length of its data in four bytes, the
+//! highest first, a flag byte 0 (not compressed), the data, and a last byte 0x0a, the flusher.
+#![tactic(auto)]
+
+mod deframer;
+mod fault;
+mod framing;
+mod laws;
+#[cfg(test)]
+mod tests;
+
+pub use deframer::Deframer;
+pub use fault::FrameFault;
+pub use framing::{LONGEST, frame};
+pub use laws::{fronts_of_frames_are_parts, only_frames_are_read, whole_frames_are_read};
