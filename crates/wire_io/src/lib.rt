@@ -3,6 +3,7 @@
 #![tactic(auto)]
 
 mod calls;
+mod ends;
 mod files;
 mod mem_files;
 mod mem_sink;
@@ -13,10 +14,11 @@ mod sink;
 mod tests;
 mod wire;
 
+pub use ends::WireEnd;
 pub use files::{FileAnswer, Files};
 pub use mem_files::MemFiles;
 pub use mem_sink::MemSink;
 pub use mem_wire::MemWire;
 pub use real::{RealFiles, RealSink};
-pub use sink::{Sink, WireEnd, write_all};
+pub use sink::{Sink, write_all};
 pub use wire::{Over, Wire};

@@ -1,7 +1,8 @@
 ghost use Rattle.std.specs.Prelude.{◌≡◌, ◌<◌, [], Some};
 
 use crate::calls::Calls;
-use crate::sink::{Sink, WireEnd};
+use crate::ends::WireEnd;
+use crate::sink::Sink;
 use std::alloc::Global;
 
 /// A sink over memory. The writes whose numbers are listed fail.

@@ -1,7 +1,7 @@
 ghost use Rattle.std.specs.Prelude.{◌≡◌, ◌<◌, ◌≤◌, ◌-◌, ◌+◌, [], drop, length, vec_len};
 
 use crate::calls::Calls;
-use crate::sink::WireEnd;
+use crate::ends::WireEnd;
 use crate::wire::{Over, Wire};
 use rp_base::Failed;
 use std::alloc::Global;

@@ -1,7 +1,8 @@
 ghost use Rattle.std.specs.Prelude.{◌≡◌, ◌≤◌, None, IfOk, length};
 
+use crate::ends::WireEnd;
 use crate::files::{FileAnswer, Files};
-use crate::sink::{Sink, WireEnd};
+use crate::sink::Sink;
 use rp_base::Blob;
 use std::alloc::Global;
 use std::fs::File;

@@ -1,13 +1,7 @@
 ghost use Rattle.std.specs.Prelude.{◌≡◌, ◌<◌, ◌≤◌, ℕ, List, [], length, take, Option, IfOk, OnOk, OnErr, IsErrOf};
 ghost use Rattle.wire_io.specs.Devices.{Rose, Wrote, IsPart};
 
-/// Why a device took or gave nothing.
-#[derive(Clone, Copy, Debug, PartialEq, Eq)]
-pub enum WireEnd {
-    /// The device failed, and its count of faults rose.
-    Failed,
-    NoMemory,
-}
+use crate::ends::WireEnd;
 
 /// Takes bytes. Where it tells, its meaning is all bytes that it took.
 pub trait Sink {

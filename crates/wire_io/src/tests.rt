@@ -23,14 +23,10 @@ fn wire_keeps_the_order(rt: HostRuntime) -> Result<(), Fail> {
     assert_eq!(rt; wire.faults(), 1);
     assert!(rt; wire.room() > 0);
     assert_eq!(rt; wire.put(b"xyz"), Ok(2));
-    assert!(rt; wire.queued() > 0);
-    let second = wire.get(alloc, 9)?;
-    assert_eq!(rt; second.as_slice(), b"cxy".as_slice());
-    assert_eq!(rt; wire.put(b"z"), Ok(1));
-    assert_eq!(rt; wire.queue(), b"z".as_slice());
+    assert_eq!(rt; wire.queue(), b"cxy".as_slice());
     wire.begin(Over::Memory)?;
     assert_eq!(rt; wire.queued(), 0);
-    assert_eq!(rt; wire.carried(), b"abcxyz".as_slice());
+    assert_eq!(rt; wire.carried(), b"abcxy".as_slice());
     Ok(())
 }
 
@@ -73,7 +69,12 @@ fn real_files_are_read(rt: HostRuntime) -> Result<(), Fail> {
     let alloc = rt.alloc();
     let mut files = RealFiles::new(rt.clone()?);
     assert!(rt; is_bytes(&files.read(alloc, "/proc/sys/kernel/ostype"), b"Linux\n"));
-    assert!(rt; matches!(files.read(alloc, "/proc/no such file"), FileAnswer::NotThere));
+    assert!(rt;
+        matches!(
+            files.read(alloc, "/proc/no such file"),
+            FileAnswer::NotThere
+        )
+    );
     assert_eq!(rt; files.faults(), 0);
     assert!(rt; matches!(files.read(alloc, "/proc"), FileAnswer::Failed));
     assert_eq!(rt; files.faults(), 1);

@@ -1,7 +1,7 @@
 ghost use Rattle.std.specs.Prelude.{◌≡◌, ◌<◌, ◌≤◌, ℕ, List, [], ◌++◌, length, take, IfOk, OnOk, OnErr, IsErrOf};
 ghost use Rattle.wire_io.specs.Devices.{Rose};
 
-use crate::sink::WireEnd;
+use crate::ends::WireEnd;
 use rp_base::Failed;
 use std::alloc::Global;
 
