@@ -1,0 +1,4 @@
+pub mod Fronts
+pub mod Meets
+pub mod Tags
+pub mod Values

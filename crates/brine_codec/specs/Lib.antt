@@ -1,0 +1,3 @@
+pub mod Spelling
+pub mod Reading
+pub use Rattle.rp_base.specs.PlainValues
