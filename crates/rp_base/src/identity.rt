@@ -1,4 +1,5 @@
 ghost use Rattle.std.specs.Prelude.{◌≡◌, IfOk};
+ghost use Rattle.rp_base.specs.Identity.{kind_named};
 
 use crate::ends::NoMemory;
 use crate::text::Text;
@@ -43,4 +44,28 @@ pub enum Kind {
     Root,
     Conn,
     Modules,
+}
+
+/// The kind of cell that this identity names. A dict with the instance number 1 is its side's namespace, and a name
+/// that no kind has is that of a class of a script or of its instance.
+pub fn kind_of(id: &IdPack) -> Kind
+    ensures { result ≡ kind_named id.now.name id.now.inst_no }
+{
+    match id.name.as_str() {
+        "builtins.dict" if id.inst_no == 1 => Kind::Namespace,
+        "builtins.dict" => Kind::Dict,
+        "builtins.list" => Kind::List,
+        "builtins.range" => Kind::Range,
+        "builtins.function" => Kind::Function,
+        "builtins.method" => Kind::Bound,
+        "builtins.iterator" => Kind::Iter,
+        "builtins.view" => Kind::View,
+        "builtins.module" => Kind::Host,
+        "builtins.hostfunc" => Kind::HostFunc,
+        "rpyc.core.service.SlaveService" => Kind::Root,
+        "rpyc.core.protocol.Connection" => Kind::Conn,
+        "rpyc.core.service.ModuleNamespace" => Kind::Modules,
+        _ if id.inst_no == 0 => Kind::Class,
+        _ => Kind::Instance,
+    }
 }

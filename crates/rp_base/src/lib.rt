@@ -10,12 +10,14 @@ mod operators;
 mod plain;
 mod rules;
 mod text;
+mod value;
 
 pub use ends::{Failed, NoMemory, OpEnd, Side, TupleEnd};
 pub use exceptions::{Beyond, ExcKind, Raised};
 pub use handlers::Handler;
-pub use identity::{IdPack, Kind};
+pub use identity::{IdPack, Kind, kind_of};
 pub use operators::{BinaryOp, CmpOp, UnaryOp};
-pub use plain::Plain;
+pub use plain::{Plain, equal};
 pub use rules::{Refused, Rule};
 pub use text::{Blob, Text};
+pub use value::{DEEPEST_TUPLE, HEAVIEST_VALUE, Value, depth, make_tuple, to_plain, weight};
