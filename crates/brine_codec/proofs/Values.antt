@@ -6,17 +6,9 @@ use Rattle.rp_base.specs.declared.plain.Plain.{Plain, roll-Plain}
 use Rattle.rp_base.specs.declared.plain.Plain.TheOpen.{Plain-F}
 use Rattle.rp_base.specs.declared.plain.Plain.TheVariants as plain
 use Rattle.rp_base.specs.declared.plain.Plain.TheViews as views
-use Rattle.rp_base.specs.declared.plain.Plain.TheFolds.{family, steps, ind-Plain, map-Plain}
-use Rattle.rp_base.specs.declared.plain.Plain.TheBlock.{lays-Plain, seen-the_row-Plain-0}
-use Rattle.rp_base.specs.PlainValues.{gather, plain_depth, depth_step}
+use Rattle.rp_base.specs.declared.plain.Plain.TheFolds.{ind-Plain, map-Plain}
+use Rattle.rp_base.specs.PlainLaws.{gather_tuple}
 use Rattle.brine_codec.specs.Spelling.{spelling, spelling_step, spellable, spellable_step, all_true, tuple_tag}
-
-pub gather_tuple : (A : Type 0) (step : Plain-F A → A) (xs : List Plain) → gather A step (plain.Tuple xs) ≡ step (Plain-F.Tuple (map (gather A step) xs))
-gather_tuple A step xs = lays-Plain (family A) (steps A step) (plain.Tuple xs) ∙ ap (λ (ys : List Plain). step (Plain-F.Tuple (map (gather A step) ys))) (seen-the_row-Plain-0 xs)
-
-pub plain_depth_tuple : (xs : List Plain) → plain_depth (plain.Tuple xs) ≡ 1 + fold max 0 (map plain_depth xs)
-unfolding plain_depth
-plain_depth_tuple xs = gather_tuple ℕ depth_step xs
 
 concat-map : (f : Plain → List ℕ) (xs : List Plain) → concat (map f xs) ≡ flat_map f xs
 concat-map f [] = refl

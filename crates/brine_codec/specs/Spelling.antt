@@ -1,5 +1,5 @@
 -- The bytes of a plain value in brine: one spelling for each value.
-use Rattle.std.specs.Prelude.{ℕ, ℤ, pos, negsuc, ◌+◌, ◌-◌, ◌==◌, nat_lt, Bool, true, false, ◌&&◌, List, [], ◌∷◌, length, if◌then◌else◌}
+use Rattle.std.specs.Prelude.{ℕ, ℤ, pos, negsuc, ◌+◌, ◌-◌, ◌==◌, nat_lt, Bool, true, false, ◌&&◌, List, [], ◌∷◌, ◌++◌, length, if◌then◌else◌}
 use Rattle.std.specs.List.{concat}
 use Rattle.std.specs.Str.{is_utf8}
 use Rattle.rp_base.specs.declared.plain.Plain.{Plain}
@@ -15,9 +15,12 @@ abbrev pub is_small_int : ℤ → Bool
 is_small_int (pos n) = nat_lt n 160
 is_small_int (negsuc n) = nat_lt n 48
 
--- the bytes of a byte string, behind its length
+-- the length of a byte string, in a tag of its own or in one byte
+abbrev pub length_spelling : ℕ → List ℕ
+length_spelling n = if nat_lt n 5 then (n + 9) ∷ [] else 14 ∷ n ∷ []
+
 abbrev pub bytes_spelling : List ℕ → List ℕ
-bytes_spelling bytes = if nat_lt (length bytes) 5 then (length bytes + 9) ∷ bytes else 14 ∷ length bytes ∷ bytes
+bytes_spelling bytes = length_spelling (length bytes) ++ bytes
 
 abbrev pub tuple_tag : ℕ → ℕ
 tuple_tag count = if count == 0 then 2 else count + 15

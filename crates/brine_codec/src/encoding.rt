@@ -1,6 +1,6 @@
 ghost use Rattle.std.specs.Prelude.{◌≡◌, ◌<◌, ◌++◌, ◌∷◌, [], true, IsTrue, OnOk, OnErr, length, take};
 ghost use Rattle.std.specs.List.{All, flat_map};
-ghost use Rattle.brine_codec.specs.Spelling.{spelling, spellable, bytes_spelling, tuple_tag, int_tag, is_small_int};
+ghost use Rattle.brine_codec.specs.Spelling.{spelling, spellable, bytes_spelling, length_spelling, tuple_tag, int_tag, is_small_int};
 
 use rp_base::{NoMemory, Plain};
 
@@ -85,13 +85,20 @@ fn put_bytes(bytes: &[u8], out: &mut Vec<u8>) -> Result<(), NoMemory>
     ensures ok { OnOk result (out.new.items ≡ out.old.items ++ bytes_spelling bytes.now) }
     ensures err { OnErr result (take (length out.old.items) out.new.items ≡ out.old.items) }
 {
-    let length = bytes.len() as u8;
-    if length < 5 {
-        out.push(length + 9)?;
+    put_length(bytes.len() as u8, out)?;
+    out.extend_from_slice(bytes)?;
+    Ok(())
+}
+
+fn put_length(n: u8, out: &mut Vec<u8>) -> Result<(), NoMemory>
+    ensures ok { OnOk result (out.new.items ≡ out.old.items ++ length_spelling n) }
+    ensures err { OnErr result (take (length out.old.items) out.new.items ≡ out.old.items) }
+{
+    if n < 5 {
+        out.push(n + 9)?;
     } else {
         out.push(0x0e)?;
-        out.push(length)?;
+        out.push(n)?;
     }
-    out.extend_from_slice(bytes)?;
     Ok(())
 }
