@@ -1,5 +1,6 @@
 -- A list that was grown keeps its front.
-use Rattle.std.proofs.Common.{◌≡◌, ℕ, zero, suc, List, [], ◌∷◌, ◌++◌, length, take, refl, ap, ◌∙◌, subst}
+use Rattle.std.proofs.Common.{◌≡◌, ℕ, zero, suc, List, [], ◌∷◌, ◌++◌, length, take, refl, ap, ◌∙◌, subst, Result, Ok, Err}
+use Rattle.std.specs.Prelude.{OnErr}
 
 -- what keeps a front a ++ b keeps a
 front_of : (a b c : List ℕ) → take (length (a ++ b)) c ≡ a ++ b → take (length a) c ≡ a
@@ -12,3 +13,7 @@ front_of (x ∷ a) b (y ∷ c) h =
 
 pub front_within : (a b c whole : List ℕ) → whole ≡ a ++ b → take (length whole) c ≡ whole → take (length a) c ≡ a
 front_within a b c whole e h = let P : List ℕ → Type 0 = λ w. take (length w) c ≡ w in front_of a b c (subst P e h)
+
+pub on_err : {T E P : Type 0} (r : Result T E) → P → OnErr r P
+on_err (Ok x) p = tt
+on_err (Err e) p = p

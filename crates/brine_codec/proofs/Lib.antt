@@ -1,4 +1,6 @@
 pub mod Fronts
+pub mod Loop
 pub mod Meets
 pub mod Tags
+pub mod Utf8
 pub mod Values

@@ -1,9 +1,9 @@
 -- The reader finds what is spelled, and what is spelled is found.
-use Rattle.std.proofs.Common.{◌≡◌, ℕ, zero, suc, ◌+◌, ◌-◌, ◌<◌, ◌≤◌, max, Bool, true, false, cond, ltb, ◌&&◌, List, [], ◌∷◌, ◌++◌, length, map, take, drop, fold, Option, Some, None, refl, sym, ap, subst, ◌∙◌, append_assoc, arith, inl, inr, ℤ}
+use Rattle.std.proofs.Common.{◌≡◌, ℕ, zero, suc, ◌+◌, ◌-◌, ◌<◌, ◌≤◌, max, Bool, true, false, cond, ltb, ◌&&◌, List, [], ◌∷◌, ◌++◌, length, map, take, drop, fold, Option, Some, None, Result, refl, sym, ap, subst, ◌∙◌, append_assoc, arith, inl, inr, ℤ}
 use Rattle.std.specs.List.{flat_map, AllByRecursion}
 use Rattle.std.specs.Str.{is_utf8}
 use Rattle.std.proofs.lemmas.Bool.{ltb-true, ltb-false, lt-ltb, le-ltb, cases_lt}
-use Rattle.std.proofs.lemmas.List.{take_at, drop_at, take-append-drop, length-append, length-take}
+use Rattle.std.proofs.lemmas.List.{append-nil, take_at, drop_at, take-append-drop, length-append, length-take}
 use Rattle.rp_base.specs.declared.plain.Plain.{Plain}
 use Rattle.rp_base.specs.declared.plain.Plain.TheVariants as plain
 use Rattle.rp_base.specs.PlainValues.{plain_depth}
@@ -11,7 +11,10 @@ use Rattle.rp_base.specs.PlainLaws.{depth_tuple}
 use Rattle.brine_codec.specs.declared.tag.Tag.{Tag}
 use Rattle.brine_codec.specs.declared.tag.Tag.TheVariants as tags
 use Rattle.brine_codec.specs.Spelling.{spelling, spellable, int_tag, all_true, length_spelling, bytes_spelling, tuple_tag}
-use Rattle.brine_codec.specs.Reading.{◌>>=◌, tag_at, length_by, length_at, bytes_at, text_at, items_at, value_by, value_in, value_at}
+use Rattle.brine_codec.specs.Reading.{◌>>=◌, tag_at, length_by, length_at, bytes_at, text_at, items_at, value_by, value_in, items_within, value_at, Fails}
+use Rattle.brine_codec.specs.declared.ends.DecodeEnd.{DecodeEnd}
+use Rattle.brine_codec.specs.declared.ends.DecodeEnd.TheVariants as decode_end
+use Rattle.std.specs.Result.{IsErrAnd, IsErrOf}
 use Rattle.brine_codec.proofs.Tags.{Means, tag_means, int_again, tuple_again, bytes_again}
 use Rattle.brine_codec.proofs.Values.{Cases, by_cases, both, joined, tuple_parts, spelling_tuple, spellable_tuple, greatest_within, each_within}
 
@@ -180,34 +183,26 @@ in_takes levels items inner [] v rest e = absurd cc
 in_takes levels items inner (b ∷ bytes) v rest e = by_takes levels b items inner (tag_at b) bytes v rest (tag_means b) e
 
 pub value_takes : (levels : ℕ) (bytes : List ℕ) (v : Plain) (rest : List ℕ) → value_at levels bytes ≡ Some (v, rest) → Found levels bytes v rest
-unfolding value_at
-value_takes zero bytes v rest e = in_takes zero (λ count more. None) (λ count more vs end h. absurd cc) bytes v rest e
-value_takes (suc n) bytes v rest e = in_takes (suc n) (items_at (value_at n)) (λ count more vs end h. (n, omega arith, items_take n (value_takes n) count more vs end h)) bytes v rest e
+unfolding items_within
+value_takes zero bytes v rest e = in_takes zero (items_within zero) (λ count more vs end h. absurd cc) bytes v rest e
+value_takes (suc n) bytes v rest e = in_takes (suc n) (items_within (suc n)) (λ count more vs end h. (n, omega arith, items_take n (value_takes n) count more vs end h)) bytes v rest e
 
 -- ---- what is spelled is found
 
 abbrev pub Again : Plain → Type 0
 Again v = spellable v ≡ true → (levels : ℕ) → plain_depth v ≤ levels → (rest : List ℕ) → value_at levels (spelling v ++ rest) ≡ Some (v, rest)
 
--- a value that stands within any levels
-within_all : (levels : ℕ) (bytes : List ℕ) (y : Option (Plain × List ℕ)) → ((items : ℕ → List ℕ → Option (List Plain × List ℕ)) → value_in items bytes ≡ y) → value_at levels bytes ≡ y
-unfolding value_at
-within_all zero bytes y h = h (λ count more. None)
-within_all (suc n) bytes y h = h (items_at (value_at n))
-
 int_is_again : (n : ℤ) → Again (plain.Int n)
 unfolding spelling spellable value_in
-int_is_again n h levels deep rest = within_all levels (int_tag n ∷ rest) (Some (plain.Int n, rest)) (λ items. ap (λ (tag : Tag). value_by items tag rest) (int_again n h))
+int_is_again n h levels deep rest = ap (λ (tag : Tag). value_by (items_within levels) tag rest) (int_again n h)
 
 text_is_again : (t : List ℕ) → Again (plain.Text t)
 unfolding spelling spellable value_in text_at
 text_is_again t h levels deep rest =
     let tests = both (ltb 0 (length t) && ltb (length t) 256) (is_utf8 t) h in
     let sizes = both (ltb 0 (length t)) (ltb (length t) 256) tests.0 in
-    let one : text_at (bytes_spelling t ++ rest) ≡ Some (plain.Text t, rest) =
     ap (λ (r : Option (List ℕ × List ℕ)). r >>= λ x. cond (is_utf8 x.0) (Some (plain.Text x.0, x.1)) None) (bytes_are_again t rest (ltb-true 0 (length t) sizes.0) (ltb-true (length t) 256 sizes.1))
-    ∙ rw tests.1 refl in
-    within_all levels (8 ∷ (bytes_spelling t ++ rest)) (Some (plain.Text t, rest)) (λ items. one)
+    ∙ rw tests.1 refl
 
 items_again : (levels : ℕ) (xs : List Plain) → AllByRecursion Again xs → AllByRecursion (λ v. spellable v ≡ true) xs → AllByRecursion (λ k. k ≤ levels) (map plain_depth xs)
     → (rest : List ℕ) → items_at (value_at levels) (length xs) (flat_map spelling xs ++ rest) ≡ Some (xs, rest)
@@ -219,13 +214,13 @@ items_again levels (x ∷ xs) again spelled deep rest =
     ∙ ap (λ (r : Option (List Plain × List ℕ)). r >>= λ others. Some (x ∷ others.0, others.1)) (items_again levels xs again.1 spelled.1 deep.1 rest)
 
 tuple_is_again : (xs : List Plain) → AllByRecursion Again xs → Again (plain.Tuple xs)
-unfolding value_at value_in
+unfolding items_within value_in
 tuple_is_again xs again h zero deep rest = absurd (omega (arith, depth_tuple xs))
 tuple_is_again xs again h (suc n) deep rest =
     let parts = tuple_parts (plain.Tuple xs) xs refl h in
     let inner = each_within 0 (map plain_depth xs) n (omega (arith, depth_tuple xs)) in
     ap (λ (bytes : List ℕ). value_at (suc n) (bytes ++ rest)) (spelling_tuple xs)
-    ∙ ap (λ (tag : Tag). value_by (items_at (value_at n)) tag (flat_map spelling xs ++ rest)) (tuple_again (length xs) parts.0)
+    ∙ ap (λ (tag : Tag). value_by (items_within (suc n)) tag (flat_map spelling xs ++ rest)) (tuple_again (length xs) parts.0)
     ∙ ap (λ (r : Option (List Plain × List ℕ)). r >>= λ all. Some (plain.Tuple all.0, all.1)) (items_again n xs again parts.1 inner.1 rest)
 
 pub value_again : (v : Plain) → Again v
@@ -247,3 +242,30 @@ spelled_once v w x y h k e =
     let both_found : found (v, x) ≡ found (w, y) = sym (value_again v h levels (omega arith) x) ∙ ap (value_at levels) e ∙ value_again w k levels (omega arith) y in
     let pairs : (v, x) ≡ (w, y) = some_is (v, x) (w, y) both_found in
     (ap (λ (p : Plain × List ℕ). p.0) pairs, ap (λ (p : Plain × List ℕ). p.1) pairs)
+
+-- ---- all of the bytes
+
+pub all_found : (bytes : List ℕ) (v : Plain) (rest : List ℕ) → value_at 100 bytes ≡ Some (v, rest) → rest ≡ [] → (spellable v ≡ true) × (plain_depth v ≤ 100) × (bytes ≡ spelling v)
+all_found bytes v rest e nothing =
+    let f = value_takes 100 bytes v rest e in
+    (f.spelled, f.deep, f.parts ∙ ap (λ (x : List ℕ). spelling v ++ x) nothing ∙ append-nil (spelling v))
+
+whole_again : (bytes : List ℕ) (v : Plain) → spellable v ≡ true → plain_depth v ≤ 100 → bytes ≡ spelling v → value_at 100 bytes ≡ Some (v, [])
+whole_again bytes v spelled deep e = ap (value_at 100) (e ∙ sym (append-nil (spelling v))) ∙ value_again v spelled 100 deep []
+
+pub nothing_missed : (bytes : List ℕ) → value_at 100 bytes ≡ None → (v : Plain) → spellable v ≡ true → plain_depth v ≤ 100 → bytes ≡ spelling v → ⊥
+nothing_missed bytes h v spelled deep e = let again : value_at 100 bytes ≡ Some (v, []) = whole_again bytes v spelled deep e in cc
+
+pub nothing_more : (bytes : List ℕ) (w : Plain) (rest : List ℕ) → value_at 100 bytes ≡ Some (w, rest) → (rest ≡ [] → ⊥) → (v : Plain) → spellable v ≡ true → plain_depth v ≤ 100 → bytes ≡ spelling v → ⊥
+nothing_more bytes w rest h more v spelled deep e =
+    let same : found (w, rest) ≡ found (v, []) = sym h ∙ whole_again bytes v spelled deep e in
+    more (ap (λ (p : Plain × List ℕ). p.1) (some_is (w, rest) (v, []) same))
+
+-- the exit of a fault within
+pub not_at_end : (e : DecodeEnd) (r : Result Plain DecodeEnd) (bytes : List ℕ) → Fails e (value_at 100 bytes) → IsErrAnd r (λ d. d ≡ e)
+    → IsErrOf r decode_end.NotBuilt → (v : Plain) → spellable v ≡ true → plain_depth v ≤ 100 → bytes ≡ spelling v → ⊥
+not_at_end decode_end.NotBuilt r bytes h same of v spelled deep e = nothing_missed bytes h v spelled deep e
+not_at_end decode_end.NoMemory r bytes h same of v spelled deep e =
+    let P : Result Plain DecodeEnd → Type 0 = λ x. IsErrAnd x (λ d. d ≡ decode_end.NoMemory) in
+    let wrong : decode_end.NotBuilt ≡ decode_end.NoMemory = subst P of same in
+    cc

@@ -1,7 +1,8 @@
 -- Recursion and induction over plain values.
 use Rattle.std.proofs.Common.{◌≡◌, ℕ, ◌+◌, ◌∷◌, ◌++◌, [], List, Bool, true, false, ◌&&◌, ltb, map, length, max, fold, refl, sym, ◌∙◌, ap, subst, ℤ, ◌≤◌, ◌<◌, arith}
 use Rattle.std.proofs.lemmas.Bool.{ltb-true}
-use Rattle.std.specs.List.{flat_map, concat, AllByRecursion}
+use Rattle.std.specs.List.{flat_map, concat, All, AllByRecursion}
+use Rattle.std.proofs.lemmas.List.Elements.{All-from_recursion}
 use Rattle.rp_base.specs.declared.plain.Plain.{Plain, roll-Plain}
 use Rattle.rp_base.specs.declared.plain.Plain.TheOpen.{Plain-F}
 use Rattle.rp_base.specs.declared.plain.Plain.TheVariants as plain
@@ -83,3 +84,11 @@ pub tuple_parts : (v : Plain) (xs : List Plain) → v ≡ plain.Tuple xs → spe
 tuple_parts v xs e h =
     let parts = both (ltb (length xs) 5) (all_true (map spellable xs)) (sym (ap spellable e ∙ spellable_tuple xs) ∙ h) in
     (ltb-true _ _ parts.0, all_spellable xs parts.1)
+
+pub tuple_spelled : (v : Plain) (xs ys : List Plain) → v ≡ plain.Tuple xs → ys ≡ xs → tuple_tag (length ys) ∷ flat_map spelling ys ≡ spelling v
+tuple_spelled v xs ys e same = sym (spelling_tuple ys) ∙ ap (λ (zs : List Plain). spelling (plain.Tuple zs)) same ∙ ap spelling (sym e)
+
+pub tuple_needs : (v : Plain) (xs ys : List Plain) → v ≡ plain.Tuple xs → ys ≡ xs → spellable v ≡ true → (length ys < 5) × All (λ v. spellable v ≡ true) ys
+tuple_needs v xs ys e same h =
+    let parts = tuple_parts v ys (e ∙ ap (λ (zs : List Plain). plain.Tuple zs) (sym same)) h in
+    (parts.0, All-from_recursion (λ v. spellable v ≡ true) ys parts.1)

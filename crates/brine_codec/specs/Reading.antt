@@ -66,7 +66,10 @@ unfoldable pub value_in : (ℕ → List ℕ → Option (List Plain × List ℕ))
 value_in items [] = None
 value_in items (b ∷ rest) = value_by items (tag_at b) rest
 
--- a value in which tuples stand in tuples at most so deep
-unfoldable pub value_at : ℕ → List ℕ → Option (Plain × List ℕ)
-value_at zero = value_in (λ count bytes. None)
-value_at (suc levels) = value_in (items_at (value_at levels))
+-- the items of a tuple, in which tuples stand in tuples at most so deep, itself counted
+unfoldable pub items_within : ℕ → ℕ → List ℕ → Option (List Plain × List ℕ)
+items_within zero count bytes = None
+items_within (suc levels) count bytes = items_at (value_in (items_within levels)) count bytes
+
+abbrev pub value_at : ℕ → List ℕ → Option (Plain × List ℕ)
+value_at levels = value_in (items_within levels)

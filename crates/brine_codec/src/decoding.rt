@@ -2,7 +2,7 @@ ghost use Rattle.std.specs.Prelude.{◌≡◌, ◌≤◌, ◌++◌, List, ℕ, I
 ghost use Rattle.std.specs.Result.{IsErrOf};
 ghost use Rattle.rp_base.specs.PlainValues.{plain_depth};
 ghost use Rattle.brine_codec.specs.Spelling.{spelling, spellable};
-ghost use Rattle.brine_codec.specs.Reading.{Gives, length_at, bytes_at, text_at, items_at, value_at};
+ghost use Rattle.brine_codec.specs.Reading.{Gives, length_at, bytes_at, text_at, items_within, value_at};
 
 use crate::ends::DecodeEnd;
 use crate::tag::{Tag, tag_of};
@@ -27,6 +27,7 @@ pub fn decode(alloc: Global, bytes: &[u8]) -> Result<Plain, DecodeEnd>
 
 /// The value at the front with tuples at most so deep, and the bytes after it.
 #[cycle(reading)]
+#[tactic(auto, unfolding(crate::specs::Reading::value_in))]
 fn read_value(alloc: Global, bytes: &[u8], levels: u32) -> Result<(Plain, &[u8]), DecodeEnd>
     ensures { Gives (λ x. (x.0, x.1.now)) result (value_at levels bytes.now) }
 {
@@ -37,24 +38,25 @@ fn read_value(alloc: Global, bytes: &[u8], levels: u32) -> Result<(Plain, &[u8])
         Tag::Int(n) => Ok((Plain::Int(n), rest)),
         Tag::Text => read_text(alloc, rest),
         Tag::Tuple(count) => {
-            if levels == 0 {
-                return Err(DecodeEnd::NotBuilt);
-            }
-            let (items, rest) = read_items(alloc, rest, levels - 1, count)?;
+            let (items, rest) = read_items(alloc, rest, levels, count)?;
             Ok((Plain::Tuple(items), rest))
         }
         _ => Err(DecodeEnd::NotBuilt),
     }
 }
 
+/// The items of a tuple that counts as one of the levels.
 #[cycle(reading)]
 fn read_items(alloc: Global, bytes: &[u8], levels: u32, count: u32) -> Result<(Items<Plain>, &[u8]), DecodeEnd>
-    ensures { Gives (λ x. (x.0, x.1.now)) result (items_at (value_at levels) count bytes.now) }
+    ensures { Gives (λ x. (x.0, x.1.now)) result (items_within levels count bytes.now) }
 {
+    if levels == 0 {
+        return Err(DecodeEnd::NotBuilt);
+    }
     let mut items = Items::new(alloc);
     let mut rest = bytes;
     for _ in 0..count {
-        let (item, after) = read_value(alloc, rest, levels)?;
+        let (item, after) = read_value(alloc, rest, levels - 1)?;
         items.push(item)?;
         rest = after;
     }
