@@ -1,5 +1,5 @@
 -- Recursion and induction over plain values.
-use Rattle.std.proofs.Common.{◌≡◌, ℕ, ◌+◌, ◌∷◌, ◌++◌, [], List, Bool, true, false, ◌&&◌, ltb, map, length, max, fold, refl, sym, ◌∙◌, ap, subst, ℤ, ◌≤◌, ◌<◌, arith}
+use Rattle.std.proofs.Common.{◌≡◌, ℕ, ◌+◌, ◌*◌, ◌∷◌, ◌++◌, [], List, Bool, true, false, ◌&&◌, ltb, map, length, max, fold, refl, sym, ◌∙◌, ap, subst, ℤ, ◌≤◌, ◌<◌, arith}
 use Rattle.std.proofs.lemmas.Bool.{ltb-true}
 use Rattle.std.specs.List.{flat_map, concat, All, AllByRecursion}
 use Rattle.std.proofs.lemmas.List.Elements.{All-from_recursion}
@@ -8,7 +8,8 @@ use Rattle.rp_base.specs.declared.plain.Plain.TheOpen.{Plain-F}
 use Rattle.rp_base.specs.declared.plain.Plain.TheVariants as plain
 use Rattle.rp_base.specs.declared.plain.Plain.TheViews as views
 use Rattle.rp_base.specs.declared.plain.Plain.TheFolds.{ind-Plain, map-Plain}
-use Rattle.rp_base.specs.PlainLaws.{gather_tuple}
+use Rattle.rp_base.specs.PlainLaws.{gather_tuple, depth_tuple}
+use Rattle.rp_base.specs.PlainValues.{plain_depth}
 use Rattle.brine_codec.specs.Spelling.{spelling, spelling_step, spellable, spellable_step, all_true, tuple_tag}
 
 concat-map : (f : Plain → List ℕ) (xs : List Plain) → concat (map f xs) ≡ flat_map f xs
@@ -92,3 +93,16 @@ pub tuple_needs : (v : Plain) (xs ys : List Plain) → v ≡ plain.Tuple xs → 
 tuple_needs v xs ys e same h =
     let parts = tuple_parts v ys (e ∙ ap (λ (zs : List Plain). plain.Tuple zs) (sym same)) h in
     (parts.0, All-from_recursion (λ v. spellable v ≡ true) ys parts.1)
+
+-- the measure of the writer falls
+pub tuple_falls : (v : Plain) (xs ys : List Plain) → v ≡ plain.Tuple xs → ys ≡ xs → 2 * fold max 0 (map plain_depth ys) + 1 < 2 * plain_depth v
+tuple_falls v xs ys e same =
+    let deep : plain_depth v ≡ 1 + fold max 0 (map plain_depth ys) = ap plain_depth e ∙ ap (λ (zs : List Plain). plain_depth (plain.Tuple zs)) (sym same) ∙ depth_tuple ys in
+    omega (arith, deep)
+
+each_deep : (xs : List Plain) (n : ℕ) → AllByRecursion (λ k. k ≤ n) (map plain_depth xs) → AllByRecursion (λ v. plain_depth v ≤ n) xs
+each_deep [] n h = tt
+each_deep (x ∷ xs) n h = (h.0, each_deep xs n h.1)
+
+pub items_deep : (xs : List Plain) → All (λ v. plain_depth v ≤ fold max 0 (map plain_depth xs)) xs
+items_deep xs = let n = fold max 0 (map plain_depth xs) in All-from_recursion (λ v. plain_depth v ≤ n) xs (each_deep xs n (each_within 0 (map plain_depth xs) n (omega arith)).1)
