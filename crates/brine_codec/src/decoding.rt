@@ -47,7 +47,12 @@ fn read_value(alloc: Global, bytes: &[u8], levels: u32) -> Result<(Plain, &[u8])
 
 /// The items of a tuple that counts as one of the levels.
 #[cycle(reading)]
-fn read_items(alloc: Global, bytes: &[u8], levels: u32, count: u32) -> Result<(Items<Plain>, &[u8]), DecodeEnd>
+fn read_items(
+    alloc: Global,
+    bytes: &[u8],
+    levels: u32,
+    count: u32,
+) -> Result<(Items<Plain>, &[u8]), DecodeEnd>
     ensures { Gives (λ x. (x.0, x.1.now)) result (items_within levels count bytes.now) }
 {
     if levels == 0 {
