@@ -28,15 +28,17 @@ pub data Front : Type 0 where
 abbrev pub longest : ℕ
 longest = 67108864
 
--- by the length, the flag and the bytes behind them
+-- by the length and the bytes behind the flag
+abbrev pub finished : ℕ → List ℕ → Front
+finished n rest =
+    if nat_lt n (length rest) then (if slice_index rest n == 10 then Whole (take n rest) (drop (n + 1) rest) else Faulty BadFlusher) else Part
+
+-- by the length, the flag and the bytes behind it
 abbrev pub judged : ℕ → ℕ → List ℕ → Front
 judged n flag rest =
     if nat_lt longest n then Faulty TooLong
     else if flag == 1 then Faulty Compressed
-    else if flag == 0 then
-    (if nat_lt n (length rest) then
-    (if slice_index rest n == 10 then Whole (take n rest) (drop (n + 1) rest) else Faulty BadFlusher)
-    else Part)
+    else if flag == 0 then finished n rest
     else Faulty BadFlag
 
 unfoldable pub front : List ℕ → Front
