@@ -65,7 +65,7 @@ choose None items = value.Tuple items
 abbrev pub joined : List Value → Value
 joined items = choose (plains_of items) items
 
--- the greatest weight of a tuple, and the greatest depth
+-- the greatest weight of a value, and the greatest depth of a tuple
 abbrev pub heaviest_value : ℕ
 heaviest_value = 1048576
 

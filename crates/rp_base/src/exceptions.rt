@@ -63,17 +63,25 @@ impl ExcKind {
 /// Why a run leaves the subset: Python's answer would need something that is not built here.
 #[derive(Clone, Copy, Debug, PartialEq, Eq)]
 pub enum Beyond {
+    /// An int that does not fit 128 bits.
     Int,
+    /// A result that Python gives as a float.
     Float,
+    /// A value that is too heavy, or a collection with too many items.
     Size,
+    /// A tuple that is too deep.
     Depth,
+    /// More printed bytes than a side may print.
     Output,
     Text,
     Name,
     Namespace,
     Key,
+    /// An exception's or a module's argument that is not plain.
     Payload,
+    /// A text that would show the address of an object.
     Address,
+    /// A list or dict that is printed while its own printing is under way.
     CyclicRepr,
     Compare,
     Order,
@@ -81,7 +89,9 @@ pub enum Beyond {
     Arguments,
     Truth,
     Drain,
+    /// A collection changed while it was gone over.
     Changed,
+    /// A text that only some of Python's forms read as an int.
     IntText,
     Operator,
     Base,

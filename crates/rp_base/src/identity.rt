@@ -32,17 +32,28 @@ pub enum Kind {
     List,
     Range,
     Function,
+    /// A method of an object, bound to it.
     Bound,
     Dict,
+    /// A side's own names, as a dict: its cell 1, and its only one.
     Namespace,
+    /// An iterator over a collection.
     Iter,
+    /// The keys, values or items of a dict.
     View,
+    /// A class of a script.
     Class,
+    /// An instance of such a class.
     Instance,
+    /// A module that the program around a side offers.
     Host,
+    /// A function of such a module.
     HostFunc,
+    /// The service that a side offers.
     Root,
+    /// The connection itself.
     Conn,
+    /// The modules that a side offers, by their names.
     Modules,
 }
 

@@ -50,6 +50,7 @@ impl Plain {
         }
     }
 
+    /// An equal value of its own.
     #[cycle(copies)]
     pub fn copy(&self, alloc: Global) -> Result<Plain, NoMemory>
         ensures { IfOk result (λ v. v ≡ self.now) }

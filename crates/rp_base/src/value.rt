@@ -8,7 +8,7 @@ use crate::plain::Plain;
 use sqlite_items::Items;
 use std::alloc::Global;
 
-/// The greatest weight of a tuple.
+/// The greatest weight of a value.
 pub const HEAVIEST_VALUE: u64 = 1_048_576;
 
 /// The greatest depth of a tuple.
