@@ -1,5 +1,5 @@
 -- A list that was grown keeps its front.
-use Rattle.std.proofs.Common.{◌≡◌, ℕ, zero, suc, List, [], ◌∷◌, ◌++◌, length, take, refl, ap, ◌∙◌, subst, Result, Ok, Err}
+use Rattle.std.proofs.Common.{◌≡◌, ℕ, List, [], ◌∷◌, ◌++◌, length, take, refl, subst, Result, Ok, Err}
 use Rattle.std.specs.Prelude.{OnErr}
 
 -- what keeps a front a ++ b keeps a

@@ -1,5 +1,5 @@
 -- The reader finds what is spelled, and what is spelled is found.
-use Rattle.std.proofs.Common.{◌≡◌, ℕ, zero, suc, ◌+◌, ◌-◌, ◌<◌, ◌≤◌, max, Bool, true, false, cond, ltb, ◌&&◌, List, [], ◌∷◌, ◌++◌, length, map, take, drop, fold, Option, Some, None, Result, refl, sym, ap, subst, ◌∙◌, append_assoc, arith, inl, inr, ℤ}
+use Rattle.std.proofs.Common.{◌≡◌, ℕ, zero, suc, ◌+◌, ◌<◌, ◌≤◌, max, Bool, true, false, cond, ltb, ◌&&◌, List, [], ◌∷◌, ◌++◌, length, map, take, drop, Option, Some, None, Result, refl, sym, ap, subst, ◌∙◌, append_assoc, arith, inl, inr, ℤ}
 use Rattle.std.specs.List.{flat_map, AllByRecursion}
 use Rattle.std.specs.Str.{is_utf8}
 use Rattle.std.proofs.lemmas.Bool.{ltb-true, ltb-false, lt-ltb, le-ltb, cases_lt}
@@ -10,13 +10,13 @@ use Rattle.rp_base.specs.PlainValues.{plain_depth}
 use Rattle.rp_base.specs.PlainLaws.{depth_tuple}
 use Rattle.brine_codec.specs.declared.tag.Tag.{Tag}
 use Rattle.brine_codec.specs.declared.tag.Tag.TheVariants as tags
-use Rattle.brine_codec.specs.Spelling.{spelling, spellable, int_tag, all_true, length_spelling, bytes_spelling, tuple_tag}
+use Rattle.brine_codec.specs.Spelling.{spelling, spellable, all_true, length_spelling, bytes_spelling, tuple_tag}
 use Rattle.brine_codec.specs.Reading.{◌>>=◌, tag_at, length_by, length_at, bytes_at, text_at, items_at, value_by, value_in, items_within, value_at, Fails}
 use Rattle.brine_codec.specs.declared.ends.DecodeEnd.{DecodeEnd}
 use Rattle.brine_codec.specs.declared.ends.DecodeEnd.TheVariants as decode_end
 use Rattle.std.specs.Result.{IsErrAnd, IsErrOf}
 use Rattle.brine_codec.proofs.Tags.{Means, tag_means, int_again, tuple_again, bytes_again}
-use Rattle.brine_codec.proofs.Values.{Cases, by_cases, both, joined, tuple_parts, spelling_tuple, spellable_tuple, greatest_within, each_within}
+use Rattle.brine_codec.proofs.Values.{by_cases, both, joined, tuple_parts, spelling_tuple, spellable_tuple, greatest_within, each_within}
 
 abbrev found : {A : Type 0} → A → Option A
 found x = Some x

@@ -1,4 +1,5 @@
-pub mod Spelling
+pub mod Computing
 pub mod Reading
-pub use Rattle.rp_base.specs.PlainValues
+pub mod Spelling
 pub use Rattle.rp_base.specs.PlainLaws
+pub use Rattle.rp_base.specs.PlainValues

@@ -1,7 +1,6 @@
-use Rattle.std.proofs.Common.{◌≡◌, ◌<◌, ◌++◌, ◌∷◌, [], ◌∙◌, refl, sym, subst, arith, Option, List, ℕ, ◌-◌}
+use Rattle.std.proofs.Common.{◌≡◌, ◌<◌, ◌∙◌, refl, arith, ◌-◌}
 use Rattle.std.proofs.lemmas.Result.{err_from_is_err_and}
-use Rattle.rp_base.specs.declared.plain.Plain.{Plain}
-use Rattle.brine_codec.specs.Reading.{Gives, Fails, items_within, value_at}
+use Rattle.brine_codec.specs.Reading.{items_within, value_at}
 use Rattle.brine_codec.proofs.Loop.{goes_on, ends_so, is_done, inside}
 use Rattle.brine_codec.proofs.decoding.+reading.Goals as goal
 

@@ -1,7 +1,7 @@
-use Rattle.std.proofs.Common.{◌≡◌, ap, sym, ◌∙◌, length, []}
+use Rattle.std.proofs.Common.{ap, sym, length}
 use Rattle.std.proofs.lemmas.Bool.{eqb-true, eqb-false}
 use Rattle.std.proofs.lemmas.List.{nil_from_length}
-use Rattle.brine_codec.proofs.Meets.{all_found, nothing_missed, nothing_more, not_at_end}
+use Rattle.brine_codec.proofs.Meets.{all_found, nothing_more, not_at_end}
 use Rattle.brine_codec.proofs.decoding.decode.Goals as goal
 
 pub returns-in_err-value-clause-not_built : goal.returns-in_err-value-clause-not_built

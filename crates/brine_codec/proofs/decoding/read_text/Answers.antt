@@ -1,4 +1,4 @@
-use Rattle.std.proofs.Common.{◌≡◌, true, false, refl, ap, ◌∙◌, sym, cond, Some, None}
+use Rattle.std.proofs.Common.{◌≡◌, true, false, refl, ◌∙◌}
 use Rattle.std.specs.Str.{is_utf8}
 use Rattle.brine_codec.specs.Reading.{text_at}
 use Rattle.brine_codec.proofs.Utf8.{utf8_passes, utf8_fails}

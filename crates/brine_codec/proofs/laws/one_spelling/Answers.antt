@@ -1,4 +1,3 @@
-use Rattle.brine_codec.proofs.Fronts as fronts
 use Rattle.brine_codec.proofs.Meets.{spelled_once}
 use Rattle.brine_codec.proofs.laws.one_spelling.Goals as goal
 
