@@ -1,0 +1,61 @@
+-- One message through a wire and a deframer.
+use Rattle.std.proofs.Common.{◌≡◌, ◌∙◌, ℕ, ◌+◌, ◌-◌, ◌≤◌, ◌++◌, List, [], length, take, drop, ap, sym, subst, refl, append-nil, append_assoc, Result, Ok, Err, Option, Some, None, IsTrue, arith, OnErr, min, length-take, length-drop}
+use Rattle.std.proofs.lemmas.Grind.{common_steps}
+use Rattle.std.proofs.lemmas.List.{take-append-drop, take-take}
+use Rattle.std.proofs.Math.Seq.{take-add}
+use Rattle.rp_base.specs.declared.plain.Plain.{Plain}
+use Rattle.brine_codec.specs.Spelling.{spelling, spellable}
+use Rattle.brine_codec.proofs.Meets.{spelled_once}
+use Rattle.channel_frames.proofs.Judging.{front-whole}
+use Rattle.channel_frames.specs.Frames.{front, frame_of, Front, Whole, Reads}
+use Rattle.channel_frames.specs.declared.fault.FrameFault.{FrameFault}
+use Rattle.channel_frames.specs.declared.fault.FrameFault.TheVariants as frame_fault
+use Rattle.rpyc_cmd.specs.Talk.{IsSendable, CarriesPart, bytes_of}
+
+-- a message's frame is in front
+pub message_in_front : (p : Plain) → IsSendable p → front (bytes_of p) ≡ Whole (spelling p) []
+message_in_front p h = ap front (sym (append-nil (bytes_of p))) ∙ front-whole (spelling p) [] h.short
+
+judged_so : {X : Type 0} (view : X → List ℕ) (p : Plain) (old new : List ℕ) (r : Result (Option X) FrameFault) → IsSendable p → old ≡ bytes_of p → Reads view (front old) r old new
+    → Reads view (Whole (spelling p) []) r old new
+judged_so view p old new r h e reads = let F : Front → Type 0 = λ f. Reads view f r old new in subst F (ap front e ∙ message_in_front p h) reads
+
+pub reads_some : {X : Type 0} (view : X → List ℕ) (p : Plain) (old new : List ℕ) (o : Option X) (x : X) → IsSendable p → old ≡ bytes_of p → o ≡ Some x → Reads view (front old) (Ok o) old new
+    → (view x ≡ spelling p) × (new ≡ [])
+reads_some {X} view p old new o x h e is reads =
+    let F : Option X → Type 0 = λ k. Reads view (Whole (spelling p) []) (Ok k) old new in
+    subst F is (judged_so view p old new (Ok o) h e reads)
+
+pub reads_none : {X : Type 0} (view : X → List ℕ) (p : Plain) (old new : List ℕ) (o : Option X) → IsSendable p → old ≡ bytes_of p → o ≡ None → Reads view (front old) (Ok o) old new → ⊥
+reads_none {X} view p old new o h e is reads =
+    let F : Option X → Type 0 = λ k. Reads view (Whole (spelling p) []) (Ok k) old new in
+    subst F is (judged_so view p old new (Ok o) h e reads)
+
+pub reads_fault : (X : Type 0) (view : X → List ℕ) (p : Plain) (old new : List ℕ) (f : FrameFault) → IsSendable p → old ≡ bytes_of p → f ≡ frame_fault.NotBuilt → Reads {X = X} view (front old) (Err f) old new → ⊥
+reads_fault X view p old new f h e is reads =
+    let F : FrameFault → Type 0 = λ k. Reads {X = X} view (Whole (spelling p) []) (Err k) old new in
+    subst F is (judged_so {X = X} view p old new (Err f) h e reads)
+
+-- what is spelled so is that message
+pub spelled_same : (p q : Plain) (bytes : List ℕ) → IsSendable p → IsTrue (spellable q) → bytes ≡ spelling p → bytes ≡ spelling q → q ≡ p
+spelled_same p q bytes h k e f =
+    (spelled_once q p [] [] k h.spelled (append-nil (spelling q) ∙ sym f ∙ e ∙ sym (append-nil (spelling p)))).0
+
+-- a front of the bytes that were to be carried
+pub part_of_pieces : (bytes old new : List ℕ) (done : ℕ) → new ≡ old ++ take done bytes → CarriesPart bytes old new
+part_of_pieces bytes old new done e = (take done bytes, drop done bytes, sym (take-append-drop done bytes), e)
+
+pub on_err : {T E : Type 0} (r : Result T E) (P : Type 0) → P → OnErr r P
+on_err (Ok x) P p = tt
+on_err (Err e) P p = p
+
+-- one piece more
+pub piece_more : (bytes : List ℕ) (done most n : ℕ) (start mid new : List ℕ) → done ≤ length bytes → n ≤ length (take (done + most - done) (drop done bytes)) → mid ≡ start ++ take done bytes
+    → new ≡ mid ++ take n (take (done + most - done) (drop done bytes)) → (done + n ≤ length bytes) × (new ≡ start ++ take (done + n) bytes)
+piece_more bytes done most n start mid new within small e f =
+    let len : length (take (done + most - done) (drop done bytes)) ≡ min (done + most - done) (length bytes - done) =
+        length-take (done + most - done) (drop done bytes) ∙ ap (min (done + most - done)) (length-drop done bytes) in
+    let inner : take n (take (done + most - done) (drop done bytes)) ≡ take n (drop done bytes) = take-take n (done + most - done) (drop done bytes) (omega arith) in
+    ( omega arith
+    , f ∙ ap (λ ms. ms ++ take n (take (done + most - done) (drop done bytes))) e ∙ ap (λ ms. (start ++ take done bytes) ++ ms) inner
+      ∙ append_assoc start (take done bytes) (take n (drop done bytes)) ∙ ap (λ ms. start ++ ms) (sym (take-add done n bytes)))

@@ -1,0 +1,10 @@
+use Rattle.std.proofs.Common.{◌≡◌, ◌++◌, map, length, All}
+use Rattle.rpyc_cmd.specs.Scripts.{lines_of, binding_line, IsBinding}
+use Rattle.rpyc_cmd.proofs.scripts.bindings.Given as goal
+
+-- the lines so far bind as the bindings so far, and then come those of the rest
+abbrev pub invariant-lines : goal.invariant-lines
+invariant-lines l = (lines_of l.text ≡ map binding_line l.bindings.items ++ lines_of l.rest) × All IsBinding l.bindings.items
+
+abbrev pub decreases-lines : goal.decreases-lines
+decreases-lines l = length l.rest

@@ -1,0 +1,4 @@
+pub mod Words
+pub mod Scripts
+pub mod Messages
+pub mod Talk

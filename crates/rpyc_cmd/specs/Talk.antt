@@ -1,0 +1,104 @@
+-- What a pair does with two scripts of this stage: what A prints, the units that are spent, the messages that cross and the
+-- bytes that carry them.
+use Rattle.std.specs.Prelude.{◌≡◌, ℕ, ◌+◌, ◌*◌, ◌≤◌, pos, List, [], ◌∷◌, ◌++◌, map, length, unwrap_or, IsTrue, IsSome, flat_map}
+use Rattle.std.specs.Fmt.{decimal}
+use Rattle.brine_codec.specs.Spelling.{spelling, spellable}
+use Rattle.channel_frames.specs.Frames.{frame_of, longest}
+use Rattle.rp_base.specs.PlainValues.{plain_depth}
+use Rattle.rp_base.specs.declared.ends.Side.{Side}
+use Rattle.rp_base.specs.declared.ends.Side.TheVariants as side
+use Rattle.rp_base.specs.declared.plain.Plain.{Plain}
+use Rattle.rp_base.specs.declared.plain.Plain.TheVariants as plain
+use Rattle.wire_io.specs.declared.ends.WireEnd.{WireEnd}
+use Rattle.wire_io.specs.declared.ends.WireEnd.TheVariants as wire_end
+use Rattle.rpyc_cmd.specs.declared.messages.Question.{Question}
+use Rattle.rpyc_cmd.specs.declared.messages.Question.TheVariants as question
+use Rattle.rpyc_cmd.specs.declared.scripts.Binding.{Binding}
+use Rattle.rpyc_cmd.specs.declared.delivery.Cut.{Cut}
+use Rattle.rpyc_cmd.specs.declared.delivery.Cut.TheVariants as cut
+use Rattle.rpyc_cmd.specs.Messages.{asks, reply, senders, by_value, number, root, namespace}
+use Rattle.rpyc_cmd.specs.Scripts.{number_of, IsLetter}
+
+-- the number that a letter is bound to
+abbrev pub value_of : List Binding → ℕ → ℕ
+value_of bindings letter = unwrap_or (number_of bindings letter) 0
+
+-- each line of A prints the number of its letter
+abbrev pub printed : List Binding → List ℕ → List ℕ
+printed bindings letters = flat_map (λ letter. decimal (value_of bindings letter) ++ 10 ∷ []) letters
+
+-- two units a line of B, two to make `conn`, eight a line of A
+abbrev pub units_of : List Binding → List ℕ → ℕ
+units_of bindings letters = 2 * length bindings + 2 + 8 * length letters
+
+-- what B answers: its root, its namespace, or the number of a letter
+abbrev pub answer : List Binding → Question → Plain
+answer bindings question.GetRoot = senders root
+answer bindings question.GetNamespace = senders namespace
+answer bindings (question.GetItem letter) = by_value (number (value_of bindings letter))
+answer bindings question.Close = by_value plain.None
+
+-- a question of A, and B's answer under its number
+abbrev pub exchange : List Binding → ℕ → Question → List (Side × Plain)
+exchange bindings seq q = (side.A, asks (pos seq) q) ∷ (side.B, reply (pos seq) (answer bindings q)) ∷ []
+
+-- one exchange a line of A, and then A closes
+abbrev pub items_from : List Binding → ℕ → List ℕ → List (Side × Plain)
+items_from bindings seq [] = (side.A, asks (pos seq) question.Close) ∷ []
+items_from bindings seq (letter ∷ letters) = exchange bindings seq (question.GetItem letter) ++ items_from bindings (seq + 1) letters
+
+-- the whole conversation
+abbrev pub talk : List Binding → List ℕ → List (Side × Plain)
+talk bindings letters = exchange bindings 0 question.GetRoot ++ (exchange bindings 1 question.GetNamespace ++ items_from bindings 2 letters)
+
+-- a message is carried as the frame of its spelling
+abbrev pub bytes_of : Plain → List ℕ
+bytes_of message = frame_of (spelling message)
+
+-- the bytes of a conversation in order, each with its sender
+abbrev pub sent_by : Side → List ℕ → List (Side × ℕ)
+sent_by s bytes = map (λ b. (s, b)) bytes
+
+abbrev pub stream : List (Side × Plain) → List (Side × ℕ)
+stream messages = flat_map (λ m. sent_by m.0 (bytes_of m.1)) messages
+
+abbrev pub from_a : List (Side × ℕ) → List ℕ
+from_a [] = []
+from_a ((side.A, b) ∷ bytes) = b ∷ from_a bytes
+from_a ((side.B, b) ∷ bytes) = from_a bytes
+
+abbrev pub from_b : List (Side × ℕ) → List ℕ
+from_b [] = []
+from_b ((side.A, b) ∷ bytes) = from_b bytes
+from_b ((side.B, b) ∷ bytes) = b ∷ from_b bytes
+
+-- what both wires had carried before, and have carried since
+abbrev pub Carries : List (Side × ℕ) → List ℕ → List ℕ → List ℕ → List ℕ → Type 0
+Carries bytes ab_old ab_new ba_old ba_new = (ab_new ≡ ab_old ++ from_a bytes) × (ba_new ≡ ba_old ++ from_b bytes)
+
+-- a front of the bytes, as they stand in the conversation
+abbrev pub CarriesFront : List (Side × ℕ) → List ℕ → List ℕ → List ℕ → List ℕ → Type 0
+CarriesFront bytes ab_old ab_new ba_old ba_new =
+    (front : List (Side × ℕ)) × (rest : List (Side × ℕ)) × (bytes ≡ front ++ rest) × Carries front ab_old ab_new ba_old ba_new
+
+-- a front of one message's bytes, on one wire
+abbrev pub CarriesPart : List ℕ → List ℕ → List ℕ → Type 0
+CarriesPart bytes old new = (front : List ℕ) × (rest : List ℕ) × (bytes ≡ front ++ rest) × (new ≡ old ++ front)
+
+-- a message that the codec of this stage takes
+pub record IsSendable (message : Plain) : Type 0 where
+  pub spelled : IsTrue (spellable message)
+  pub shallow : plain_depth message ≤ 100
+  pub short : length (spelling message) ≤ longest
+
+-- what a device's end cuts short
+abbrev pub cut_by : WireEnd → Cut
+cut_by wire_end.Failed = cut.Wire
+cut_by wire_end.NoMemory = cut.NoMemory
+
+-- a question that B answers, in a request of this number
+abbrev pub IsAnswered : List Binding → Question → Type 0
+IsAnswered bindings question.GetRoot = Unit {0}
+IsAnswered bindings question.GetNamespace = Unit {0}
+IsAnswered bindings (question.GetItem letter) = IsLetter letter × IsSome (number_of bindings letter)
+IsAnswered bindings question.Close = ⊥

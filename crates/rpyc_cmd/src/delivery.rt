@@ -1,0 +1,124 @@
+ghost use Rattle.std.specs.Prelude.{◌≡◌, ◌≤◌, ℕ, List, [], ◌++◌, IfOk, OnOk, OnErr, IsErrOf, IsTrue};
+ghost use Rattle.rp_base.specs.declared.plain.Plain.{Plain};
+ghost use Rattle.wire_io.specs.Devices.{Rose};
+ghost use Rattle.rpyc_cmd.specs.Talk.{IsSendable, CarriesPart, bytes_of};
+
+use brine_codec::{decode, encode};
+use channel_frames::{Deframer, frame};
+use rp_base::{NoMemory, Plain};
+use std::alloc::Global;
+use wire_io::{Wire, WireEnd};
+
+/// Why a run was cut short.
+#[derive(Clone, Copy, Debug, PartialEq, Eq)]
+pub enum Cut {
+    /// A wire failed, and its count of faults rose.
+    Wire,
+    NoMemory,
+}
+
+impl From<NoMemory> for Cut {
+    ghost use Rattle.rpyc_cmd.specs.declared.delivery.Cut.TheVariants as cut;
+    ghost from_gives = { λ _ e. e ≡ cut.NoMemory };
+
+    fn from(_error: NoMemory) -> Cut {
+        Cut::NoMemory
+    }
+}
+
+impl From<WireEnd> for Cut {
+    ghost use Rattle.rpyc_cmd.specs.Talk.{cut_by};
+    ghost from_gives = { λ w e. e ≡ cut_by w };
+
+    fn from(end: WireEnd) -> Cut {
+        match end {
+            WireEnd::Failed => Cut::Wire,
+            WireEnd::NoMemory => Cut::NoMemory,
+        }
+    }
+}
+
+/// Sends a message over a wire, and gives it as it was read at the other end.
+pub fn deliver<W: Wire>(alloc: Global, message: &Plain, wire: &mut W, inbox: &mut Deframer) -> Result<Plain, Cut>
+    requires sendable { IsSendable message.now }
+    requires idle { (W.queue wire.old ≡ []) × (inbox.old ≡ []) }
+    ensures heard { IfOk result (λ heard. heard ≡ message.now) }
+    ensures carried { OnOk result (W.carried wire.new ≡ W.carried wire.old ++ bytes_of message.now) }
+    ensures idle { OnOk result ((W.queue wire.new ≡ []) × (inbox.new ≡ [])) }
+    ensures part { OnErr result (CarriesPart (bytes_of message.now) (W.carried wire.old) (W.carried wire.new)) }
+    ensures later { W.fault_count wire.old ≤ W.fault_count wire.new }
+    ensures failed { IsErrOf result Cut.Wire → Rose (W.fault_count wire.old) (W.fault_count wire.new) }
+{
+    let bytes = frame_bytes(alloc, message)?;
+    carry(alloc, &bytes, wire, inbox)?;
+    Ok(next_message(alloc, inbox)?)
+}
+
+/// The frame of a message.
+fn frame_bytes(alloc: Global, message: &Plain) -> Result<Vec<u8>, NoMemory>
+    requires { IsSendable message.now }
+    ensures { IfOk result (λ bytes. bytes.items ≡ bytes_of message.now) }
+{
+    let mut body = Vec::new(alloc);
+    encode(message, &mut body)?;
+    let mut bytes = Vec::new(alloc);
+    match frame(&body, &mut bytes) {
+        Ok(()) => Ok(bytes),
+        Err(_) => Err(NoMemory),
+    }
+}
+
+/// Moves bytes through a wire into an inbox, in pieces as large as the wire has room for.
+fn carry<W: Wire>(alloc: Global, bytes: &[u8], wire: &mut W, inbox: &mut Deframer) -> Result<(), Cut>
+    requires { W.queue wire.old ≡ [] }
+    ensures carried { OnOk result (W.carried wire.new ≡ W.carried wire.old ++ bytes.now) }
+    ensures given { OnOk result ((W.queue wire.new ≡ []) × (inbox.new ≡ inbox.old ++ bytes.now)) }
+    ensures part { OnErr result (CarriesPart bytes.now (W.carried wire.old) (W.carried wire.new)) }
+    ensures later { W.fault_count wire.old ≤ W.fault_count wire.new }
+    ensures failed { IsErrOf result Cut.Wire → Rose (W.fault_count wire.old) (W.fault_count wire.new) }
+{
+    let mut done = 0;
+    'pieces: while done < bytes.len() {
+        let most = wire.room().min(bytes.len() - done);
+        let taken = wire.put(&bytes[done..done + most])?;
+        drain(alloc, wire, inbox)?;
+        done += taken;
+    }
+    Ok(())
+}
+
+/// The largest piece that is taken from a wire at once, in bytes.
+const PIECE: usize = 65_536;
+
+/// Gives all that waits in a wire to an inbox.
+fn drain<W: Wire>(alloc: Global, wire: &mut W, inbox: &mut Deframer) -> Result<(), Cut>
+    ensures given { OnOk result ((W.queue wire.new ≡ []) × (inbox.new ≡ inbox.old ++ W.queue wire.old)) }
+    ensures carried { W.carried wire.new ≡ W.carried wire.old }
+    ensures later { W.fault_count wire.old ≤ W.fault_count wire.new }
+    ensures failed { IsErrOf result Cut.Wire → Rose (W.fault_count wire.old) (W.fault_count wire.new) }
+{
+    'pieces: while wire.queued() > 0 {
+        let piece = wire.get(alloc, PIECE)?;
+        if inbox.feed(&piece).is_err() {
+            return Err(Cut::NoMemory);
+        }
+    }
+    Ok(())
+}
+
+/// The one message that is in an inbox.
+fn next_message(alloc: Global, inbox: &mut Deframer) -> Result<Plain, NoMemory>
+    requires { (message : Plain) × IsSendable message × (inbox.old ≡ bytes_of message) }
+    ensures { (message : Plain) → IsSendable message → inbox.old ≡ bytes_of message → IfOk result (λ heard. heard ≡ message) × OnOk result (inbox.new ≡ []) }
+{
+    match inbox.next(alloc) {
+        Ok(Some(body)) => match decode(alloc, &body) {
+            Ok(message) => Ok(message),
+            Err(brine_codec::DecodeEnd::NoMemory) => Err(NoMemory),
+            Err(brine_codec::DecodeEnd::NotBuilt) => unreachable!(),
+        },
+        Err(channel_frames::FrameFault::NoMemory) => Err(NoMemory),
+        Ok(None) => unreachable!(),
+        Err(channel_frames::FrameFault::NotBuilt) => unreachable!(),
+    }
+}
