@@ -9,7 +9,7 @@ use Rattle.std.specs.Fmt.{decimal, digits}
 use Rattle.rpyc_cmd.specs.Scripts.{short_number}
 
 -- a test that holds of each number below a bound
-abbrev all_below : ℕ → (ℕ → Bool) → Bool
+abbrev pub all_below : ℕ → (ℕ → Bool) → Bool
 all_below zero p = true
 all_below (suc k) p = p k && all_below k p
 
@@ -34,7 +34,7 @@ at_either : (k : ℕ) (p : ℕ → Bool) → p k ≡ true → (n : ℕ) → (n <
 at_either k p h n below (inl e) = ap p e ∙ h
 at_either k p h n below (inr l) = below l
 
-from_all : (k : ℕ) (p : ℕ → Bool) → all_below k p ≡ true → (n : ℕ) → n < k → p n ≡ true
+pub from_all : (k : ℕ) (p : ℕ → Bool) → all_below k p ≡ true → (n : ℕ) → n < k → p n ≡ true
 from_all zero p h n below = absurd (omega arith)
 from_all (suc k) p h n below = let parts = both (p k) (all_below k p) h in at_either k p parts.0 n (from_all k p parts.1 n) (is_last k n below)
 

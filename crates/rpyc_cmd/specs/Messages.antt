@@ -177,3 +177,21 @@ question_among _ = None
 -- the number and the question of a request
 abbrev pub question_of : Plain → Option (ℤ × Question)
 question_of p = question_among (items_of p)
+
+-- the boxed value of the reply to the request of this number
+abbrev pub value_among : ℕ → Option (List Plain) → Option Plain
+value_among seq (Some (kind ∷ number ∷ value ∷ [])) = if is_int (int_of kind) 2 && is_int (int_of number) seq then Some value else None
+value_among seq _ = None
+
+abbrev pub reply_value_of : ℕ → Plain → Option Plain
+reply_value_of seq p = value_among seq (items_of p)
+
+abbrev pub object_in : Plain → Option Plain
+object_in p = content_of 4 p
+
+abbrev pub int_in : Option Plain → Option ℤ
+int_in (Some p) = int_of p
+int_in None = None
+
+abbrev pub number_in : Plain → Option ℤ
+number_in p = int_in (content_of 1 p)

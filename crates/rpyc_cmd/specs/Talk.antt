@@ -1,6 +1,6 @@
 -- What a pair does with two scripts of this stage: what A prints, the units that are spent, the messages that cross and the
 -- bytes that carry them.
-use Rattle.std.specs.Prelude.{◌≡◌, ℕ, ◌+◌, ◌*◌, ◌≤◌, pos, List, [], ◌∷◌, ◌++◌, map, length, unwrap_or, IsTrue, IsSome, flat_map}
+use Rattle.std.specs.Prelude.{◌≡◌, ℕ, ◌+◌, ◌*◌, ◌≤◌, pos, List, [], ◌∷◌, ◌++◌, map, length, unwrap_or, IsTrue, IsSome, All, take}
 use Rattle.std.specs.Fmt.{decimal}
 use Rattle.brine_codec.specs.Spelling.{spelling, spellable}
 use Rattle.channel_frames.specs.Frames.{frame_of, longest}
@@ -25,7 +25,8 @@ value_of bindings letter = unwrap_or (number_of bindings letter) 0
 
 -- each line of A prints the number of its letter
 abbrev pub printed : List Binding → List ℕ → List ℕ
-printed bindings letters = flat_map (λ letter. decimal (value_of bindings letter) ++ 10 ∷ []) letters
+printed bindings [] = []
+printed bindings (letter ∷ letters) = (decimal (value_of bindings letter) ++ 10 ∷ []) ++ printed bindings letters
 
 -- two units a line of B, two to make `conn`, eight a line of A
 abbrev pub units_of : List Binding → List ℕ → ℕ
@@ -42,14 +43,19 @@ answer bindings question.Close = by_value plain.None
 abbrev pub exchange : List Binding → ℕ → Question → List (Side × Plain)
 exchange bindings seq q = (side.A, asks (pos seq) q) ∷ (side.B, reply (pos seq) (answer bindings q)) ∷ []
 
--- one exchange a line of A, and then A closes
+-- one exchange a line of A
 abbrev pub items_from : List Binding → ℕ → List ℕ → List (Side × Plain)
-items_from bindings seq [] = (side.A, asks (pos seq) question.Close) ∷ []
+items_from bindings seq [] = []
 items_from bindings seq (letter ∷ letters) = exchange bindings seq (question.GetItem letter) ++ items_from bindings (seq + 1) letters
+
+-- A closes
+abbrev pub closing : ℕ → List (Side × Plain)
+closing seq = (side.A, asks (pos seq) question.Close) ∷ []
 
 -- the whole conversation
 abbrev pub talk : List Binding → List ℕ → List (Side × Plain)
-talk bindings letters = exchange bindings 0 question.GetRoot ++ (exchange bindings 1 question.GetNamespace ++ items_from bindings 2 letters)
+talk bindings letters =
+    exchange bindings 0 question.GetRoot ++ (exchange bindings 1 question.GetNamespace ++ (items_from bindings 2 letters ++ closing (2 + length letters)))
 
 -- a message is carried as the frame of its spelling
 abbrev pub bytes_of : Plain → List ℕ
@@ -60,7 +66,8 @@ abbrev pub sent_by : Side → List ℕ → List (Side × ℕ)
 sent_by s bytes = map (λ b. (s, b)) bytes
 
 abbrev pub stream : List (Side × Plain) → List (Side × ℕ)
-stream messages = flat_map (λ m. sent_by m.0 (bytes_of m.1)) messages
+stream [] = []
+stream (m ∷ messages) = sent_by m.0 (bytes_of m.1) ++ stream messages
 
 abbrev pub from_a : List (Side × ℕ) → List ℕ
 from_a [] = []
@@ -100,5 +107,24 @@ cut_by wire_end.NoMemory = cut.NoMemory
 abbrev pub IsAnswered : List Binding → Question → Type 0
 IsAnswered bindings question.GetRoot = Unit {0}
 IsAnswered bindings question.GetNamespace = Unit {0}
-IsAnswered bindings (question.GetItem letter) = IsLetter letter × IsSome (number_of bindings letter)
+IsAnswered bindings (question.GetItem letter) = IsLetter letter × IsSome (number_of bindings letter) × (value_of bindings letter ≤ 159)
 IsAnswered bindings question.Close = ⊥
+
+-- a request of this number that B answers
+abbrev pub IsAsked : List Binding → ℕ → Plain → Type 0
+IsAsked bindings seq request = (q : Question) × (request ≡ asks (pos seq) q) × IsAnswered bindings q × (seq ≤ 159)
+
+-- nothing waits in the wires or in the inboxes
+pub record IsIdle (ab ba inbox_a inbox_b : List ℕ) : Type 0 where
+  pub no_requests : ab ≡ []
+  pub no_replies : ba ≡ []
+  pub none_for_a : inbox_a ≡ []
+  pub none_for_b : inbox_b ≡ []
+
+-- each letter's question is answered, and there are few enough of them
+abbrev pub AreAnswered : List Binding → List ℕ → Type 0
+AreAnswered bindings letters = All (λ letter. IsAnswered bindings (question.GetItem letter)) letters × (length letters ≤ 100)
+
+-- what A printed before, and now: the lines of the first letters
+abbrev pub PrintsFirst : List Binding → List ℕ → List ℕ → List ℕ → Type 0
+PrintsFirst bindings letters old new = (count : ℕ) × (new ≡ old ++ printed bindings (take count letters))

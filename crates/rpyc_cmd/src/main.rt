@@ -3,6 +3,7 @@
 
 mod delivery;
 mod messages;
+mod pair;
 mod scripts;
 mod words;
 

@@ -4,7 +4,7 @@ ghost use Rattle.rp_base.specs.declared.plain.Plain.{Plain};
 ghost use Rattle.rp_base.specs.declared.plain.Plain.TheVariants as plain;
 ghost use Rattle.rp_base.specs.declared.handlers.Handler.TheVariants as handlers;
 ghost use Rattle.rpyc_cmd.specs.declared.messages.Question.TheVariants as question;
-ghost use Rattle.rpyc_cmd.specs.Messages.{items_of, int_of, text_of, is_int, is_text, content_of, is_identity_in, is_object, root, namespace, number, boxed, by_value, boxed_tuple, receivers, senders, identity, request, reply, arguments, handler_of, asks, question_of, question_in, is_empty, no_items, namespace_question, is_named, item_question, letter_in};
+ghost use Rattle.rpyc_cmd.specs.Messages.{items_of, int_of, text_of, is_int, is_text, content_of, is_identity_in, is_object, root, namespace, number, boxed, by_value, boxed_tuple, receivers, senders, identity, request, reply, arguments, handler_of, asks, question_of, question_in, is_empty, no_items, namespace_question, is_named, item_question, letter_in, reply_value_of, object_in, number_in};
 
 use rp_base::{Handler, NoMemory, Plain, Text};
 use sqlite_items::Items;
@@ -47,11 +47,11 @@ fn boxed(alloc: Global, label: u8, content: Plain) -> Result<Plain, NoMemory>
     tuple(alloc, [number(label), content])
 }
 
-/// The root object's identity.
-pub const ROOT: &str = "rpyc.core.service.SlaveService";
+/// The name in the identity of a root object.
+const ROOT: &str = "rpyc.core.service.SlaveService";
 
-/// A namespace's identity has a dict's name.
-pub const NAMESPACE: &str = "builtins.dict";
+/// The name in the identity of a namespace, which is that of a dict.
+const NAMESPACE: &str = "builtins.dict";
 
 fn identity(alloc: Global, name: &str, class_no: u8, inst_no: u8) -> Result<Plain, NoMemory>
     ensures { IfOk result (λ p. p ≡ identity name.now class_no inst_no) }
@@ -66,7 +66,7 @@ fn request(alloc: Global, seq: u64, handler: Handler, args: Plain) -> Result<Pla
     tuple(alloc, [number(1), Plain::Int(i128::from(seq)), content])
 }
 
-fn reply(alloc: Global, seq: i128, value: Plain) -> Result<Plain, NoMemory>
+pub fn reply(alloc: Global, seq: i128, value: Plain) -> Result<Plain, NoMemory>
     ensures { IfOk result (λ p. p ≡ reply seq value) }
 {
     tuple(alloc, [number(2), Plain::Int(seq), value])
@@ -166,7 +166,7 @@ fn items(value: &Plain) -> Option<&[Plain]>
     }
 }
 
-fn is_int(value: &Plain, wanted: u8) -> bool
+fn is_int(value: &Plain, wanted: u64) -> bool
     ensures { result ≡ is_int (int_of value.now) wanted }
 {
     match value {
@@ -184,7 +184,7 @@ fn is_text(value: &Plain, wanted: &str) -> bool
     }
 }
 
-fn content(value: &Plain, label: u8) -> Option<&Plain>
+fn content(value: &Plain, label: u64) -> Option<&Plain>
     ensures { option_copied result ≡ content_of label value.now }
 {
     match items(value)? {
@@ -193,7 +193,7 @@ fn content(value: &Plain, label: u8) -> Option<&Plain>
     }
 }
 
-fn is_object(value: Option<&Plain>, name: &str, inst_no: u8) -> bool
+fn is_object(value: Option<&Plain>, name: &str, inst_no: u64) -> bool
     ensures { result ≡ is_object name.now inst_no (option_copied value.entry) }
 {
     match value {
@@ -202,7 +202,7 @@ fn is_object(value: Option<&Plain>, name: &str, inst_no: u8) -> bool
     }
 }
 
-fn is_identity(value: &Plain, wanted: &str, class_no: u8, inst_no: u8) -> bool
+fn is_identity(value: &Plain, wanted: &str, class_no: u64, inst_no: u64) -> bool
     ensures { result ≡ is_identity_in wanted.now class_no inst_no (items_of value.now) }
 {
     match items(value) {
@@ -302,4 +302,49 @@ fn letter_in(keys: &Plain) -> Option<u8>
         },
         _ => None,
     }
+}
+
+/// B's root as B sends it.
+pub fn own_root(alloc: Global) -> Result<Plain, NoMemory>
+    ensures { IfOk result (λ p. p ≡ senders root) }
+{
+    boxed(alloc, 4, identity(alloc, ROOT, 0, 2)?)
+}
+
+/// B's namespace as B sends it.
+pub fn own_namespace(alloc: Global) -> Result<Plain, NoMemory>
+    ensures { IfOk result (λ p. p ≡ senders namespace) }
+{
+    boxed(alloc, 4, identity(alloc, NAMESPACE, 0, 1)?)
+}
+
+/// A number, sent by value.
+pub fn number_by_value(alloc: Global, n: u8) -> Result<Plain, NoMemory>
+    ensures { IfOk result (λ p. p ≡ by_value (number n)) }
+{
+    by_value(alloc, number(n))
+}
+
+/// The boxed value of the reply to the request of this number.
+pub fn reply_value(message: &Plain, seq: u64) -> Option<&Plain>
+    ensures { option_copied result ≡ reply_value_of seq message.now }
+{
+    match items(message)? {
+        [kind, number, value] if is_int(kind, 2) && is_int(number, seq) => Some(value),
+        _ => None,
+    }
+}
+
+/// The identity of an object of the sender.
+pub fn object_in(value: &Plain) -> Option<&Plain>
+    ensures { option_copied result ≡ object_in value.now }
+{
+    content(value, 4)
+}
+
+/// The number that was sent by value.
+pub fn number_in(value: &Plain) -> Option<i128>
+    ensures { result ≡ number_in value.now }
+{
+    int(content(value, 1)?)
 }
