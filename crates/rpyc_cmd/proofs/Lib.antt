@@ -1,3 +1,4 @@
 pub mod Numbers
 pub mod Lines
 pub mod Delivering
+pub mod WordsLaws
