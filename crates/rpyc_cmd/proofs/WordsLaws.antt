@@ -1,5 +1,5 @@
 -- What is read of the words of a command line is what they spell, and a refusal says where they stop.
-use Rattle.std.proofs.Common.{◌≡◌, ℕ, ◌+◌, ◌<◌, ◌≤◌, ◌++◌, List, [], ◌∷◌, Bool, true, false, arith, ap, sym, ◌∙◌, refl, subst, take, length, codes, cond, Result, Ok, Err}
+use Rattle.std.proofs.Common.{◌≡◌, ℕ, List, [], ◌∷◌, Bool, true, false, arith, ap, sym, ◌∙◌, refl, subst, codes, cond, Result, Ok, Err}
 use Rattle.std.specs.Bool.{IsTrue}
 use Rattle.std.specs.Str.{bytes_eq}
 use Rattle.std.proofs.lemmas.Slice.Eq.{bytes_eq-Decides}
@@ -43,7 +43,7 @@ file_names_gives (x ∷ words) a b h =
     record {
       spelled = ap (λ ws. pair_word ∷ x ∷ ws) names.1 ∙ ap (λ w. pair_word ∷ w ∷ b ∷ []) names.0;
       named_a = subst (λ w. IsTrue (is_file_name w)) names.0 parts.0;
-      named_b = names.2
+      named_b = names.2;
     }
 
 pub command_gives : (words : List (List ℕ)) (a b : List ℕ) → command_of words ≡ Ok (a, b) → IsPair words a b
@@ -94,59 +94,59 @@ four_words first x y z rest a b p = let e = p.spelled in cc
 -- Each refusal.
 refused_empty : IsRefusedAt [] 0
 refused_empty = record {
-    within = omega arith;
-    begins = begins_empty;
-    stops = λ more _. absurd (omega (arith, more));
-    lacks = λ a b p. let e = p.spelled in cc
-  }
+  within = omega arith;
+  begins = begins_empty;
+  stops = λ more _. absurd (omega (arith, more));
+  lacks = λ a b p. let e = p.spelled in cc;
+}
 
 refused_command : (word : List ℕ) (words : List (List ℕ)) → bytes_eq word pair_word ≡ false → IsRefusedAt (word ∷ words) 0
 refused_command word words other = record {
-    within = omega arith;
-    begins = begins_empty;
-    stops = λ _ more. other_command word more.0 more.1 more.2 other more.3;
-    lacks = λ a b p. other_command word words a b other p
-  }
+  within = omega arith;
+  begins = begins_empty;
+  stops = λ _ more. other_command word more.0 more.1 more.2 other more.3;
+  lacks = λ a b p. other_command word words a b other p;
+}
 
 refused_no_a : IsRefusedAt (pair_word ∷ []) 1
 refused_no_a = record {
-    within = omega arith;
-    begins = begins_pair;
-    stops = λ more _. absurd (omega (arith, more));
-    lacks = λ a b p. let e = p.spelled in cc
-  }
+  within = omega arith;
+  begins = begins_pair;
+  stops = λ more _. absurd (omega (arith, more));
+  lacks = λ a b p. let e = p.spelled in cc;
+}
 
 refused_a : (x : List ℕ) (words : List (List ℕ)) → is_file_name x ≡ false → IsRefusedAt (pair_word ∷ x ∷ words) 1
 refused_a x words other = record {
-    within = omega arith;
-    begins = begins_pair;
-    stops = λ _ more. other_a pair_word x more.0 more.1 more.2 other more.3;
-    lacks = λ a b p. other_a pair_word x words a b other p
-  }
+  within = omega arith;
+  begins = begins_pair;
+  stops = λ _ more. other_a pair_word x more.0 more.1 more.2 other more.3;
+  lacks = λ a b p. other_a pair_word x words a b other p;
+}
 
 refused_no_b : (x : List ℕ) → is_file_name x ≡ true → IsRefusedAt (pair_word ∷ x ∷ []) 2
 refused_no_b x good = record {
-    within = omega arith;
-    begins = begins_name x good;
-    stops = λ more _. absurd (omega (arith, more));
-    lacks = λ a b p. let e = p.spelled in cc
-  }
+  within = omega arith;
+  begins = begins_name x good;
+  stops = λ more _. absurd (omega (arith, more));
+  lacks = λ a b p. let e = p.spelled in cc;
+}
 
 refused_b : (x y : List ℕ) (words : List (List ℕ)) → is_file_name x ≡ true → is_file_name y ≡ false → IsRefusedAt (pair_word ∷ x ∷ y ∷ words) 2
 refused_b x y words good other = record {
-    within = omega arith;
-    begins = begins_name x good;
-    stops = λ _ more. other_b pair_word x y more.0 more.1 more.2 other more.3;
-    lacks = λ a b p. other_b pair_word x y words a b other p
-  }
+  within = omega arith;
+  begins = begins_name x good;
+  stops = λ _ more. other_b pair_word x y more.0 more.1 more.2 other more.3;
+  lacks = λ a b p. other_b pair_word x y words a b other p;
+}
 
 refused_more : (x y z : List ℕ) (words : List (List ℕ)) → is_file_name x ≡ true → is_file_name y ≡ true → IsRefusedAt (pair_word ∷ x ∷ y ∷ z ∷ words) 3
 refused_more x y z words good_x good_y = record {
-    within = omega arith;
-    begins = begins_names x y good_x good_y;
-    stops = λ _ more. four_words pair_word x y z more.0 more.1 more.2 more.3;
-    lacks = λ a b p. four_words pair_word x y z words a b p
-  }
+  within = omega arith;
+  begins = begins_names x y good_x good_y;
+  stops = λ _ more. four_words pair_word x y z more.0 more.1 more.2 more.3;
+  lacks = λ a b p. four_words pair_word x y z words a b p;
+}
 
 no_more_refuses : (x y : List ℕ) (words : List (List ℕ)) (at : ℕ) → is_file_name x ≡ true → is_file_name y ≡ true → no_more x y words ≡ Err at → IsRefusedAt (pair_word ∷ x ∷ y ∷ words) at
 no_more_refuses x y [] at good_x good_y h = cc
@@ -156,19 +156,19 @@ second_name_refuses : (x : List ℕ) (words : List (List ℕ)) (at : ℕ) → is
 second_name_refuses x [] at good h = let e : 2 ≡ at = cc in subst (IsRefusedAt (pair_word ∷ x ∷ [])) e (refused_no_b x good)
 second_name_refuses x (y ∷ words) at good h =
     stops_or_later (is_file_name y) (no_more x y words) 2 at
-      (λ good_y more. no_more_refuses x y words at good good_y more)
-      (λ other e. subst (IsRefusedAt (pair_word ∷ x ∷ y ∷ words)) e (refused_b x y words good other)) h
+    (λ good_y more. no_more_refuses x y words at good good_y more)
+    (λ other e. subst (IsRefusedAt (pair_word ∷ x ∷ y ∷ words)) e (refused_b x y words good other)) h
 
 file_names_refuses : (words : List (List ℕ)) (at : ℕ) → file_names words ≡ Err at → IsRefusedAt (pair_word ∷ words) at
 file_names_refuses [] at h = let e : 1 ≡ at = cc in subst (IsRefusedAt (pair_word ∷ [])) e refused_no_a
 file_names_refuses (x ∷ words) at h =
     stops_or_later (is_file_name x) (second_name x words) 1 at
-      (λ good more. second_name_refuses x words at good more)
-      (λ other e. subst (IsRefusedAt (pair_word ∷ x ∷ words)) e (refused_a x words other)) h
+    (λ good more. second_name_refuses x words at good more)
+    (λ other e. subst (IsRefusedAt (pair_word ∷ x ∷ words)) e (refused_a x words other)) h
 
 pub command_refuses : (words : List (List ℕ)) (at : ℕ) → command_of words ≡ Err at → IsRefusedAt words at
 command_refuses [] at h = let e : 0 ≡ at = cc in subst (IsRefusedAt []) e refused_empty
 command_refuses (word ∷ words) at h =
     stops_or_later (bytes_eq word pair_word) (file_names words) 0 at
-      (λ same more. subst (λ w. IsRefusedAt (w ∷ words) at) (sym ((bytes_eq-Decides word pair_word).0 same)) (file_names_refuses words at more))
-      (λ other e. subst (IsRefusedAt (word ∷ words)) e (refused_command word words other)) h
+    (λ same more. subst (λ w. IsRefusedAt (w ∷ words) at) (sym ((bytes_eq-Decides word pair_word).0 same)) (file_names_refuses words at more))
+    (λ other e. subst (IsRefusedAt (word ∷ words)) e (refused_command word words other)) h
