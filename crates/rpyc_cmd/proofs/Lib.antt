@@ -5,3 +5,4 @@ pub mod Sendable
 pub mod Traffic
 pub mod Asking
 pub mod Items
+pub mod WordsLaws

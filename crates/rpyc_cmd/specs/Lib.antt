@@ -2,3 +2,4 @@ pub mod Words
 pub mod Scripts
 pub mod Messages
 pub mod Talk
+pub mod Report

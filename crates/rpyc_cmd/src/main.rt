@@ -4,9 +4,13 @@
 mod delivery;
 mod messages;
 mod pair;
+mod report;
 mod scripts;
 mod words;
 
+pub use report::{
+    PairEnd, RunEnd, not_there_text, pair_report, read_fault_text, script_text, words_text,
+};
 pub use scripts::Binding;
 pub use words::{Pair, command};
 
