@@ -76,3 +76,6 @@ front_b bytes ab ba ba_new h =
     ( sent_by side.B h.0, sent_by side.B h.1
     , ap (sent_by side.B) h.2 ∙ map-append (λ b. (side.B, b)) h.0 h.1
     , carries_b h.0 ab ba ba_new h.3)
+
+pub front_all : (s : List (Side × ℕ)) (ab ab_new ba ba_new : List ℕ) → Carries s ab ab_new ba ba_new → CarriesFront s ab ab_new ba ba_new
+front_all s ab ab_new ba ba_new h = (s, [], sym (append-nil s), h)

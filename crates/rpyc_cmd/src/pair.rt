@@ -204,5 +204,6 @@ fn converse<W: Wire>(alloc: Global, letters: &[u8], a: &mut SideA, b: &mut SideB
     let object = ask_root(alloc, a, b, ab, ba)?;
     let dict = ask_namespace(alloc, &object, a, b, ab, ba)?;
     print_items(alloc, letters, &dict, a, b, ab, ba)?;
-    close(alloc, 2 + letters.len() as u64, b, ab)
+    close(alloc, 2 + letters.len() as u64, b, ab)?;
+    Ok(())
 }

@@ -1,0 +1,72 @@
+use Rattle.std.proofs.Common.{arith, ◌≤◌, ◌≡◌, ◌∙◌, ◌++◌, ◌∷◌, [], ap, sym, pos, List, ℕ, ℤ, Option, Some, None, string_bytes}
+use Rattle.std.specs.Fmt.{decimal, signed_decimal}
+use Rattle.std.specs.Int.{w128}
+use Rattle.std.proofs.lemmas.Int.{to_z-of_z}
+use mir.Val.{to_z, of_z}
+use Rattle.rp_base.specs.declared.ends.Side.{Side}
+use Rattle.rp_base.specs.declared.handlers.Handler.TheVariants as handlers
+use Rattle.rpyc_cmd.specs.declared.messages.Question.TheVariants as question
+use Rattle.rpyc_cmd.specs.Messages.{asks, request, arguments, root, number_in, by_value, number}
+use Rattle.rpyc_cmd.specs.Talk.{exchange, stream, CarriesFront, value_of}
+use Rattle.rpyc_cmd.proofs.Delivering.{on_err}
+use Rattle.rpyc_cmd.proofs.Sendable.{number_is_read}
+use Rattle.rpyc_cmd.proofs.Traffic.{front_all}
+use Rattle.rpyc_cmd.proofs.pair.print_item.Goals as goal
+
+same_number : (m n : ℤ) → Some m ≡ Some n → m ≡ n
+same_number m n e = cc
+
+absent : (n : ℤ) (o : Option ℤ) → None ≡ o → o ≡ Some n → ⊥
+absent n o e f = cc
+
+as_it_is : (n : ℕ) → n ≤ 159 → to_z w128 (of_z w128 (pos n)) ≡ pos n
+as_it_is n h = to_z-of_z w128 (pos n) (record { sfits = omega arith })
+
+pub ask-requires-clause-asked : goal.ask-requires-clause-asked
+ask-requires-clause-asked g c =
+    let bindings = c.args.b.now.bindings.items in
+    let asked : c.in_ok-request.request ≡ asks (pos c.args.seq) (question.GetItem c.args.letter) =
+        c.in_ok-request.ensures ∙ ap (λ d. request (pos c.args.seq) handlers.CallAttr (arguments root d (question.GetItem c.args.letter))) c.requires.dict in
+    (question.GetItem c.args.letter, asked, c.requires.answered.0, c.requires.answered.1)
+
+pub returns-in_err-value-clause-part : goal.returns-in_err-value-clause-part
+returns-in_err-value-clause-part g c =
+    let bindings = c.args.b.now.bindings.items in
+    let asked : c.in_ok-request.request ≡ asks (pos c.args.seq) (question.GetItem c.args.letter) =
+        c.in_ok-request.ensures ∙ ap (λ d. request (pos c.args.seq) handlers.CallAttr (arguments root d (question.GetItem c.args.letter))) c.requires.dict in
+    on_err c.from_residual-in_err-value.result (CarriesFront (stream (exchange bindings c.args.seq (question.GetItem c.args.letter))) (g.W.Wire.carried c.args.ab.now) (g.W.Wire.carried c.ask.new.ab) (g.W.Wire.carried c.args.ba.now) (g.W.Wire.carried c.ask.new.ba))
+        (c.in_err-value.ensures.part (question.GetItem c.args.letter) asked)
+
+pub returns-in_err-print-in-Some-clause-part : goal.returns-in_err-print-in-Some-clause-part
+returns-in_err-print-in-Some-clause-part g c =
+    let bindings = c.args.b.now.bindings.items in
+    let asked : c.in_ok-request.request ≡ asks (pos c.args.seq) (question.GetItem c.args.letter) =
+        c.in_ok-request.ensures ∙ ap (λ d. request (pos c.args.seq) handlers.CallAttr (arguments root d (question.GetItem c.args.letter))) c.requires.dict in
+    on_err c.from_residual-in_err-print-in-Some.result (CarriesFront (stream (exchange bindings c.args.seq (question.GetItem c.args.letter))) (g.W.Wire.carried c.args.ab.now) (g.W.Wire.carried c.ask.new.ab) (g.W.Wire.carried c.args.ba.now) (g.W.Wire.carried c.ask.new.ba))
+        (front_all (stream (exchange bindings c.args.seq (question.GetItem c.args.letter))) (g.W.Wire.carried c.args.ab.now) (g.W.Wire.carried c.ask.new.ab) (g.W.Wire.carried c.args.ba.now) (g.W.Wire.carried c.ask.new.ba) (c.in_ok-value.ensures.carried (question.GetItem c.args.letter) asked))
+
+pub unreachable-requires : goal.unreachable-requires
+unreachable-requires g c =
+    let bindings = c.args.b.now.bindings.items in
+    let asked : c.in_ok-request.request ≡ asks (pos c.args.seq) (question.GetItem c.args.letter) =
+        c.in_ok-request.ensures ∙ ap (λ d. request (pos c.args.seq) handlers.CallAttr (arguments root d (question.GetItem c.args.letter))) c.requires.dict in
+    absent (pos (value_of bindings c.args.letter)) (number_in c.in_ok-value.value) c.in-None.ensures (ap number_in (c.in_ok-value.ensures.answered (question.GetItem c.args.letter) asked) ∙ number_is_read (value_of bindings c.args.letter))
+
+pub returns-clause-printed : goal.returns-clause-printed
+returns-clause-printed g c =
+    let bindings = c.args.b.now.bindings.items in
+    let asked : c.in_ok-request.request ≡ asks (pos c.args.seq) (question.GetItem c.args.letter) =
+        c.in_ok-request.ensures ∙ ap (λ d. request (pos c.args.seq) handlers.CallAttr (arguments root d (question.GetItem c.args.letter))) c.requires.dict in
+    let read : c.in-Some.number ≡ pos (value_of bindings c.args.letter) =
+        same_number c.in-Some.number (pos (value_of bindings c.args.letter))
+            (c.in-Some.ensures ∙ ap number_in (c.in_ok-value.ensures.answered (question.GetItem c.args.letter) asked) ∙ number_is_read (value_of bindings c.args.letter)) in
+    c.in_ok-print-in-Some.ensures ∙ ap (λ o. string_bytes o ++ (signed_decimal (to_z w128 (of_z w128 c.in-Some.number)) ++ 10 ∷ [])) c.in_ok-value.ensures.kept.0
+    ∙ ap (λ n. string_bytes c.args.a.now.output ++ (signed_decimal (to_z w128 (of_z w128 n)) ++ 10 ∷ [])) read
+    ∙ ap (λ n. string_bytes c.args.a.now.output ++ (signed_decimal n ++ 10 ∷ [])) (as_it_is (value_of bindings c.args.letter) c.requires.answered.0.2)
+
+pub returns-clause-carried : goal.returns-clause-carried
+returns-clause-carried g c =
+    let bindings = c.args.b.now.bindings.items in
+    let asked : c.in_ok-request.request ≡ asks (pos c.args.seq) (question.GetItem c.args.letter) =
+        c.in_ok-request.ensures ∙ ap (λ d. request (pos c.args.seq) handlers.CallAttr (arguments root d (question.GetItem c.args.letter))) c.requires.dict in
+    c.in_ok-value.ensures.carried (question.GetItem c.args.letter) asked
