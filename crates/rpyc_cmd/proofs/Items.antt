@@ -1,15 +1,17 @@
 -- The exchanges of A's lines, one after the other.
-use Rattle.std.proofs.Common.{◌≡◌, ◌∙◌, ℕ, ◌+◌, ◌<◌, ◌≤◌, ◌++◌, List, [], ◌∷◌, ap, sym, refl, subst, take, drop, length, append_assoc, append-nil, get_or, suc, zero, arith, take-suc}
+use Rattle.std.proofs.Common.{◌≡◌, ◌∙◌, ℕ, ◌+◌, ◌<◌, ◌≤◌, ◌++◌, List, [], ◌∷◌, ap, sym, refl, subst, take, drop, length, append_assoc, append-nil, get_or, suc, zero, arith, take-suc, pos}
 use Rattle.std.proofs.Math.ListN.{drop_of_length-le}
 use Rattle.std.specs.Fmt.{decimal}
 use Rattle.std.proofs.Math.Seq.{drop-cons}
 use Rattle.rp_base.specs.declared.ends.Side.{Side}
+use Rattle.rp_base.specs.declared.ends.Side.TheVariants as side
 use Rattle.rp_base.specs.declared.plain.Plain.{Plain}
+use Rattle.rpyc_cmd.specs.Messages.{asks}
 use Rattle.rpyc_cmd.specs.declared.messages.Question.{Question}
 use Rattle.rpyc_cmd.specs.declared.messages.Question.TheVariants as question
 use Rattle.rpyc_cmd.specs.declared.scripts.Binding.{Binding}
-use Rattle.rpyc_cmd.specs.Talk.{exchange, stream, sent_by, bytes_of, Carries, CarriesFront, items_from, printed, value_of}
-use Rattle.rpyc_cmd.proofs.Traffic.{carries_then, carries_none, front_then, front_more}
+use Rattle.rpyc_cmd.specs.Talk.{exchange, stream, sent_by, bytes_of, Carries, CarriesFront, CarriesPart, items_from, closing, talk, printed, value_of}
+use Rattle.rpyc_cmd.proofs.Traffic.{carries_then, carries_none, carries_a, front_then, front_more, front_a}
 
 pub stream-append : (xs ys : List (Side × Plain)) → stream (xs ++ ys) ≡ stream xs ++ stream ys
 stream-append [] ys = refl
@@ -78,3 +80,57 @@ printed_more bindings letters index old mid new h e f =
         ap (λ n. printed bindings (take n letters)) (sym after) ∙ ap (printed bindings) (take-suc letters index 0 h)
         ∙ printed-append bindings (take index letters) (get_or letters index 0 ∷ []) ∙ ap (λ ms. printed bindings (take index letters) ++ ms) (append-nil line) in
     f ∙ ap (λ ms. ms ++ line) e ∙ append_assoc old (printed bindings (take index letters)) line ∙ ap (λ ms. old ++ ms) (sym lines)
+
+-- the conversation's bytes, part by part
+pub talk_stream : (bindings : List Binding) (letters : List ℕ) → stream (talk bindings letters)
+    ≡ stream (exchange bindings 0 question.GetRoot) ++ (stream (exchange bindings 1 question.GetNamespace) ++ (stream (items_from bindings 2 letters) ++ stream (closing (2 + length letters))))
+talk_stream bindings letters =
+    stream-append (exchange bindings 0 question.GetRoot) (exchange bindings 1 question.GetNamespace ++ (items_from bindings 2 letters ++ closing (2 + length letters)))
+    ∙ ap (λ ms. stream (exchange bindings 0 question.GetRoot) ++ ms)
+        (stream-append (exchange bindings 1 question.GetNamespace) (items_from bindings 2 letters ++ closing (2 + length letters))
+        ∙ ap (λ ms. stream (exchange bindings 1 question.GetNamespace) ++ ms) (stream-append (items_from bindings 2 letters) (closing (2 + length letters))))
+
+pub talk_cut_first : (bindings : List Binding) (letters : List ℕ) (ab ab1 ba ba1 : List ℕ) → CarriesFront (stream (exchange bindings 0 question.GetRoot)) ab ab1 ba ba1 → CarriesFront (stream (talk bindings letters)) ab ab1 ba ba1
+talk_cut_first bindings letters ab ab1 ba ba1 h =
+    let F : List (Side × ℕ) → Type 0 = λ s. CarriesFront s ab ab1 ba ba1 in
+    subst F (sym (talk_stream bindings letters))
+        (front_more (stream (exchange bindings 0 question.GetRoot)) (stream (exchange bindings 1 question.GetNamespace) ++ (stream (items_from bindings 2 letters) ++ stream (closing (2 + length letters)))) ab ab1 ba ba1 h)
+
+pub talk_cut_second : (bindings : List Binding) (letters : List ℕ) (ab ab1 ab2 ba ba1 ba2 : List ℕ) → Carries (stream (exchange bindings 0 question.GetRoot)) ab ab1 ba ba1
+    → CarriesFront (stream (exchange bindings 1 question.GetNamespace)) ab1 ab2 ba1 ba2 → CarriesFront (stream (talk bindings letters)) ab ab2 ba ba2
+talk_cut_second bindings letters ab ab1 ab2 ba ba1 ba2 h k =
+    let rest = stream (items_from bindings 2 letters) ++ stream (closing (2 + length letters)) in
+    let F : List (Side × ℕ) → Type 0 = λ s. CarriesFront s ab ab2 ba ba2 in
+    subst F (sym (talk_stream bindings letters))
+        (front_then (stream (exchange bindings 0 question.GetRoot)) (stream (exchange bindings 1 question.GetNamespace) ++ rest) ab ab1 ab2 ba ba1 ba2 h
+            (front_more (stream (exchange bindings 1 question.GetNamespace)) rest ab1 ab2 ba1 ba2 k))
+
+-- after the two exchanges that make `conn`
+pub talk_cut_later : (bindings : List Binding) (letters : List ℕ) (ab ab1 ab2 ab3 ba ba1 ba2 ba3 : List ℕ) → Carries (stream (exchange bindings 0 question.GetRoot)) ab ab1 ba ba1
+    → Carries (stream (exchange bindings 1 question.GetNamespace)) ab1 ab2 ba1 ba2 → CarriesFront (stream (items_from bindings 2 letters) ++ stream (closing (2 + length letters))) ab2 ab3 ba2 ba3
+    → CarriesFront (stream (talk bindings letters)) ab ab3 ba ba3
+talk_cut_later bindings letters ab ab1 ab2 ab3 ba ba1 ba2 ba3 h k m =
+    let rest = stream (items_from bindings 2 letters) ++ stream (closing (2 + length letters)) in
+    let F : List (Side × ℕ) → Type 0 = λ s. CarriesFront s ab ab3 ba ba3 in
+    subst F (sym (talk_stream bindings letters))
+        (front_then (stream (exchange bindings 0 question.GetRoot)) (stream (exchange bindings 1 question.GetNamespace) ++ rest) ab ab1 ab3 ba ba1 ba3 h
+            (front_then (stream (exchange bindings 1 question.GetNamespace)) rest ab1 ab2 ab3 ba1 ba2 ba3 k m))
+
+pub talk_whole : (bindings : List Binding) (letters : List ℕ) (ab ab1 ab2 ab3 ba ba1 ba2 ba3 : List ℕ) → Carries (stream (exchange bindings 0 question.GetRoot)) ab ab1 ba ba1
+    → Carries (stream (exchange bindings 1 question.GetNamespace)) ab1 ab2 ba1 ba2 → Carries (stream (items_from bindings 2 letters) ++ stream (closing (2 + length letters))) ab2 ab3 ba2 ba3
+    → Carries (stream (talk bindings letters)) ab ab3 ba ba3
+talk_whole bindings letters ab ab1 ab2 ab3 ba ba1 ba2 ba3 h k m =
+    let rest = stream (items_from bindings 2 letters) ++ stream (closing (2 + length letters)) in
+    let F : List (Side × ℕ) → Type 0 = λ s. Carries s ab ab3 ba ba3 in
+    subst F (sym (talk_stream bindings letters))
+        (carries_then (stream (exchange bindings 0 question.GetRoot)) (stream (exchange bindings 1 question.GetNamespace) ++ rest) ab ab1 ab3 ba ba1 ba3 h
+            (carries_then (stream (exchange bindings 1 question.GetNamespace)) rest ab1 ab2 ab3 ba1 ba2 ba3 k m))
+
+-- the closing message
+pub closing_carried : (seq : ℕ) (ab ab1 ba : List ℕ) → ab1 ≡ ab ++ bytes_of (asks (pos seq) question.Close) → Carries (stream (closing seq)) ab ab1 ba ba
+closing_carried seq ab ab1 ba e =
+    let F : List (Side × ℕ) → Type 0 = λ s. Carries s ab ab1 ba ba in
+    subst F (sym (append-nil (sent_by side.A (bytes_of (asks (pos seq) question.Close))))) (carries_a (bytes_of (asks (pos seq) question.Close)) ab ab1 ba e)
+
+pub closing_part : (seq : ℕ) (ab ab1 ba : List ℕ) → CarriesPart (bytes_of (asks (pos seq) question.Close)) ab ab1 → CarriesFront (stream (closing seq)) ab ab1 ba ba
+closing_part seq ab ab1 ba h = front_more (sent_by side.A (bytes_of (asks (pos seq) question.Close))) [] ab ab1 ba ba (front_a (bytes_of (asks (pos seq) question.Close)) ab ab1 ba h)

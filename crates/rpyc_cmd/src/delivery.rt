@@ -5,7 +5,7 @@ ghost use Rattle.rpyc_cmd.specs.Talk.{IsSendable, CarriesPart, bytes_of};
 
 use brine_codec::{decode, encode};
 use channel_frames::{Deframer, frame};
-use rp_base::{NoMemory, Plain};
+use rp_base::{Failed, NoMemory, Plain};
 use std::alloc::Global;
 use wire_io::{Wire, WireEnd};
 
@@ -23,6 +23,15 @@ impl From<NoMemory> for Cut {
 
     fn from(_error: NoMemory) -> Cut {
         Cut::NoMemory
+    }
+}
+
+impl From<Failed> for Cut {
+    ghost use Rattle.rpyc_cmd.specs.declared.delivery.Cut.TheVariants as cut;
+    ghost from_gives = { λ _ e. e ≡ cut.Wire };
+
+    fn from(_error: Failed) -> Cut {
+        Cut::Wire
     }
 }
 

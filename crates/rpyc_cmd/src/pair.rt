@@ -191,7 +191,7 @@ fn close<W: Wire>(alloc: Global, seq: u64, b: &mut SideB, ab: &mut W) -> Result<
 }
 
 /// The whole conversation of a pair over two wires with nothing queued.
-fn converse<W: Wire>(alloc: Global, letters: &[u8], a: &mut SideA, b: &mut SideB, ab: &mut W, ba: &mut W) -> Result<(), Cut>
+pub fn converse<W: Wire>(alloc: Global, letters: &[u8], a: &mut SideA, b: &mut SideB, ab: &mut W, ba: &mut W) -> Result<(), Cut>
     requires answered { AreAnswered b.old.bindings.items letters.now }
     requires idle { IsIdle (W.queue ab.old) (W.queue ba.old) a.old.inbox b.old.inbox }
     ensures printed { OnOk result (string_bytes a.new.output ≡ string_bytes a.old.output ++ printed b.old.bindings.items letters.now) }

@@ -2,6 +2,7 @@ ghost use Rattle.std.specs.Prelude.{◌≡◌, List, ℕ, MatchResult, map, stri
 ghost use Rattle.rpyc_cmd.specs.Words.{IsPair, IsRefusedAt, is_file_name, Reads, command_of, file_names, second_name};
 
 /// What the words of a command line ask for: the names of A's and of B's file.
+#[derive(Clone, Copy, Debug)]
 pub struct Pair<'a> {
     pub a: &'a str,
     pub b: &'a str,

@@ -1,0 +1,38 @@
+ghost use Rattle.std.specs.Prelude.{◌≡◌};
+ghost use Rattle.rpyc_cmd.specs.Statuses.{code_of};
+
+/// How a run of the program ended.
+#[derive(Clone, Copy, Debug, PartialEq, Eq)]
+pub enum Status {
+    /// The run is done and the report was written.
+    Done,
+    /// The words are no command line.
+    Words,
+    /// A script is refused.
+    Script,
+    /// A file is not there or could not be read.
+    File,
+    /// A wire failed.
+    Device,
+    /// The output failed: what it took is a front of the text.
+    Output,
+    /// There was no memory: nothing more was written.
+    NoMemory,
+}
+
+impl Status {
+    /// The exit status of the process.
+    pub fn code(self) -> u8
+        ensures { result ≡ code_of self }
+    {
+        match self {
+            Status::Done => 0,
+            Status::Words => 2,
+            Status::Script => 3,
+            Status::File => 4,
+            Status::Device => 8,
+            Status::Output => 10,
+            Status::NoMemory => 11,
+        }
+    }
+}
