@@ -6,3 +6,4 @@ pub mod Traffic
 pub mod Asking
 pub mod Items
 pub mod WordsLaws
+pub mod Outcomes

@@ -128,8 +128,10 @@ fn accept(alloc: Global, name_a: &str, text_a: &[u8], name_b: &str, text_b: &[u8
 {
     let letters = letters_of(alloc, name_a, text_a)?;
     let bindings = bindings_of(alloc, name_b, text_b)?;
-    check_bound(alloc, name_a, &letters, &bindings)?;
-    Ok(Accepted { letters, bindings })
+    match check_bound(alloc, name_a, &letters, &bindings) {
+        Ok(()) => Ok(Accepted { letters, bindings }),
+        Err(stop) => Err(stop),
+    }
 }
 
 /// Begins both wires, A's first, and has the conversation.
@@ -225,8 +227,13 @@ fn decide_pair<F: Files, W: Wire>(alloc: Global, name_a: &str, name_b: &str, fil
 {
     let text_a = read_script(alloc, name_a, files)?;
     let text_b = read_script(alloc, name_b, files)?;
-    let accepted = accept(alloc, name_a, text_a.as_slice(), name_b, text_b.as_slice())?;
-    Ok(decide_run(alloc, accepted, ab, ba)?)
+    match accept(alloc, name_a, text_a.as_slice(), name_b, text_b.as_slice()) {
+        Ok(accepted) => match decide_run(alloc, accepted, ab, ba) {
+            Ok(decided) => Ok(decided),
+            Err(NoMemory) => Err(Stop::NoMemory),
+        },
+        Err(stop) => Err(stop),
+    }
 }
 
 /// What the program decides on before it writes.

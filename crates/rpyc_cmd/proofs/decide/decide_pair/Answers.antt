@@ -1,0 +1,11 @@
+use Rattle.std.proofs.Common.{◌≡◌, refl, inr, string_bytes}
+use Rattle.rpyc_cmd.specs.Outcome.{outside}
+use Rattle.rpyc_cmd.proofs.Outcomes.{are_answered, run_decides, script_decides, scripts_of}
+use Rattle.rpyc_cmd.proofs.decide.decide_pair.Goals as goal
+
+pub decide_run-requires : goal.decide_run-requires
+decide_run-requires g c = are_answered c.as_slice.result.now c.as_slice-2.result.now c.in-Ok.accepted.letters.items c.in-Ok.accepted.bindings.items c.in-Ok.ensures.accepted
+
+pub returns-in-Ok-decide_run-clause-decided : goal.returns-in-Ok-decide_run-clause-decided
+returns-in-Ok-decide_run-clause-decided g c = λ words named.
+    run_decides c.in-Ok-decide_run.decided.status words (outside (g.F.Files.held c.args.files.now) (g.F.Files.fault_count c.args.files.now) (g.W.Wire.carried c.args.ab.now) (g.W.Wire.fault_count c.args.ab.now) (g.W.Wire.carried c.args.ba.now) (g.W.Wire.fault_count c.args.ba.now)) (outside (g.F.Files.held c.read_script-2.new.files) (g.F.Files.fault_count c.read_script-2.new.files) (g.W.Wire.carried c.decide_run.new.ab) (g.W.Wire.fault_count c.decide_run.new.ab) (g.W.Wire.carried c.decide_run.new.ba) (g.W.Wire.fault_count c.decide_run.new.ba)) (scripts_of words (g.F.Files.held c.args.files.now) (g.F.Files.held c.read_script.new.files) c.args.name_a.now c.args.name_b.now c.in_ok-text_a.text_a c.as_slice.result.now c.in_ok-text_b.text_b c.as_slice-2.result.now named c.in_ok-text_a.ensures.read c.as_slice.ensures c.in_ok-text_a.ensures.kept c.in_ok-text_b.ensures.read c.as_slice-2.ensures) c.in-Ok.accepted.letters.items c.in-Ok.accepted.bindings.items (string_bytes c.in-Ok-decide_run.decided.text) c.in-Ok.ensures.accepted c.in-Ok-decide_run.ensures.decided
