@@ -10,7 +10,6 @@ use Rattle.rpyc_cmd.specs.Talk.{answer, exchange, stream, sent_by, bytes_of, Car
 use Rattle.rpyc_cmd.proofs.Sendable.{sendable_reply}
 use Rattle.rpyc_cmd.proofs.Traffic.{carries_a, carries_b, carries_then, front_a, front_b, front_then, front_more, front_of_whole}
 
-
 pub asked_part : (p r : Plain) (ab ab1 ba : List ℕ) → CarriesPart (bytes_of p) ab ab1 → CarriesFront (sent_by side.A (bytes_of p) ++ (sent_by side.B (bytes_of r) ++ [])) ab ab1 ba ba
 asked_part p r ab ab1 ba h = front_more (sent_by side.A (bytes_of p)) (sent_by side.B (bytes_of r) ++ []) ab ab1 ba ba (front_a (bytes_of p) ab ab1 ba h)
 
@@ -20,12 +19,12 @@ asked_whole p r ab ab1 ba h = front_of_whole (sent_by side.A (bytes_of p)) (sent
 pub replied_part : (p r : Plain) (ab ab1 ba ba1 : List ℕ) → ab1 ≡ ab ++ bytes_of p → CarriesPart (bytes_of r) ba ba1 → CarriesFront (sent_by side.A (bytes_of p) ++ (sent_by side.B (bytes_of r) ++ [])) ab ab1 ba ba1
 replied_part p r ab ab1 ba ba1 h k =
     front_then (sent_by side.A (bytes_of p)) (sent_by side.B (bytes_of r) ++ []) ab ab1 ab1 ba ba ba1 (carries_a (bytes_of p) ab ab1 ba h)
-        (front_more (sent_by side.B (bytes_of r)) [] ab1 ab1 ba ba1 (front_b (bytes_of r) ab1 ba ba1 k))
+    (front_more (sent_by side.B (bytes_of r)) [] ab1 ab1 ba ba1 (front_b (bytes_of r) ab1 ba ba1 k))
 
 pub replied_whole : (p r : Plain) (ab ab1 ba ba1 : List ℕ) → ab1 ≡ ab ++ bytes_of p → ba1 ≡ ba ++ bytes_of r → Carries (sent_by side.A (bytes_of p) ++ (sent_by side.B (bytes_of r) ++ [])) ab ab1 ba ba1
 replied_whole p r ab ab1 ba ba1 h k =
     carries_then (sent_by side.A (bytes_of p)) (sent_by side.B (bytes_of r) ++ []) ab ab1 ab1 ba ba ba1 (carries_a (bytes_of p) ab ab1 ba h)
-        (let C : List (Side × ℕ) → Type 0 = λ s. Carries s ab1 ab1 ba ba1 in subst C (sym (append-nil (sent_by side.B (bytes_of r)))) (carries_b (bytes_of r) ab1 ba ba1 k))
+    (let C : List (Side × ℕ) → Type 0 = λ s. Carries s ab1 ab1 ba ba1 in subst C (sym (append-nil (sent_by side.B (bytes_of r)))) (carries_b (bytes_of r) ab1 ba ba1 k))
 
 pub replied_front : (p r : Plain) (ab ab1 ba ba1 : List ℕ) → ab1 ≡ ab ++ bytes_of p → ba1 ≡ ba ++ bytes_of r → CarriesFront (sent_by side.A (bytes_of p) ++ (sent_by side.B (bytes_of r) ++ [])) ab ab1 ba ba1
 replied_front p r ab ab1 ba ba1 h k =

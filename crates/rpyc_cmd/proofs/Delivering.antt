@@ -54,8 +54,9 @@ pub piece_more : (bytes : List ℕ) (done most n : ℕ) (start mid new : List �
     → new ≡ mid ++ take n (take (done + most - done) (drop done bytes)) → (done + n ≤ length bytes) × (new ≡ start ++ take (done + n) bytes)
 piece_more bytes done most n start mid new within small e f =
     let len : length (take (done + most - done) (drop done bytes)) ≡ min (done + most - done) (length bytes - done) =
-        length-take (done + most - done) (drop done bytes) ∙ ap (min (done + most - done)) (length-drop done bytes) in
-    let inner : take n (take (done + most - done) (drop done bytes)) ≡ take n (drop done bytes) = take-take n (done + most - done) (drop done bytes) (omega arith) in
-    ( omega arith
-    , f ∙ ap (λ ms. ms ++ take n (take (done + most - done) (drop done bytes))) e ∙ ap (λ ms. (start ++ take done bytes) ++ ms) inner
-      ∙ append_assoc start (take done bytes) (take n (drop done bytes)) ∙ ap (λ ms. start ++ ms) (sym (take-add done n bytes)))
+    length-take (done + most - done) (drop done bytes) ∙ ap (min (done + most - done)) (length-drop done bytes) in
+    let inner : take n (take (done + most - done) (drop done bytes)) ≡ take n (drop done bytes) = take-take n (done + most - done) (drop done bytes) (omega arith) in (
+      omega arith,
+      f ∙ ap (λ ms. ms ++ take n (take (done + most - done) (drop done bytes))) e ∙ ap (λ ms. (start ++ take done bytes) ++ ms) inner
+          ∙ append_assoc start (take done bytes) (take n (drop done bytes)) ∙ ap (λ ms. start ++ ms) (sym (take-add done n bytes)),
+    )

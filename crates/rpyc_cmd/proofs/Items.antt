@@ -45,8 +45,8 @@ going_on bindings letters index ab ab1 ab2 ba ba1 ba2 h going k =
     record {
       done = going.done ++ item;
       whole = going.whole ∙ ap (λ ms. going.done ++ ms) (next_item bindings letters index h)
-        ∙ sym (append_assoc going.done item (stream (items_from bindings (2 + (index + 1)) (drop (index + 1) letters))));
-      carried = carries_then going.done item ab ab1 ab2 ba ba1 ba2 going.carried k
+          ∙ sym (append_assoc going.done item (stream (items_from bindings (2 + (index + 1)) (drop (index + 1) letters))));
+      carried = carries_then going.done item ab ab1 ab2 ba ba1 ba2 going.carried k;
     }
 
 pub going_cut : (bindings : List Binding) (letters : List ℕ) (index : ℕ) (ab ab1 ab2 ba ba1 ba2 : List ℕ) → index < length letters → Going bindings letters index ab ab1 ba ba1
@@ -56,7 +56,7 @@ going_cut bindings letters index ab ab1 ab2 ba ba1 ba2 h going k =
     let others = stream (items_from bindings (2 + (index + 1)) (drop (index + 1) letters)) in
     let F : List (Side × ℕ) → Type 0 = λ s. CarriesFront s ab ab2 ba ba2 in
     subst F (sym (going.whole ∙ ap (λ ms. going.done ++ ms) (next_item bindings letters index h)))
-        (front_then going.done (item ++ others) ab ab1 ab2 ba ba1 ba2 going.carried (front_more item others ab1 ab2 ba1 ba2 k))
+    (front_then going.done (item ++ others) ab ab1 ab2 ba ba1 ba2 going.carried (front_more item others ab1 ab2 ba1 ba2 k))
 
 pub going_ends : (bindings : List Binding) (letters : List ℕ) (index : ℕ) (ab ab1 ba ba1 : List ℕ) → length letters ≤ index → Going bindings letters index ab ab1 ba ba1
     → Carries (stream (items_from bindings 2 letters)) ab ab1 ba ba1
@@ -77,8 +77,8 @@ printed_more bindings letters index old mid new h e f =
     let after : suc index ≡ index + 1 = omega arith in
     let line = decimal (value_of bindings (get_or letters index 0)) ++ 10 ∷ [] in
     let lines : printed bindings (take (index + 1) letters) ≡ printed bindings (take index letters) ++ line =
-        ap (λ n. printed bindings (take n letters)) (sym after) ∙ ap (printed bindings) (take-suc letters index 0 h)
-        ∙ printed-append bindings (take index letters) (get_or letters index 0 ∷ []) ∙ ap (λ ms. printed bindings (take index letters) ++ ms) (append-nil line) in
+    ap (λ n. printed bindings (take n letters)) (sym after) ∙ ap (printed bindings) (take-suc letters index 0 h)
+    ∙ printed-append bindings (take index letters) (get_or letters index 0 ∷ []) ∙ ap (λ ms. printed bindings (take index letters) ++ ms) (append-nil line) in
     f ∙ ap (λ ms. ms ++ line) e ∙ append_assoc old (printed bindings (take index letters)) line ∙ ap (λ ms. old ++ ms) (sym lines)
 
 -- the conversation's bytes, part by part
@@ -87,14 +87,14 @@ pub talk_stream : (bindings : List Binding) (letters : List ℕ) → stream (tal
 talk_stream bindings letters =
     stream-append (exchange bindings 0 question.GetRoot) (exchange bindings 1 question.GetNamespace ++ (items_from bindings 2 letters ++ closing (2 + length letters)))
     ∙ ap (λ ms. stream (exchange bindings 0 question.GetRoot) ++ ms)
-        (stream-append (exchange bindings 1 question.GetNamespace) (items_from bindings 2 letters ++ closing (2 + length letters))
-        ∙ ap (λ ms. stream (exchange bindings 1 question.GetNamespace) ++ ms) (stream-append (items_from bindings 2 letters) (closing (2 + length letters))))
+    (stream-append (exchange bindings 1 question.GetNamespace) (items_from bindings 2 letters ++ closing (2 + length letters))
+    ∙ ap (λ ms. stream (exchange bindings 1 question.GetNamespace) ++ ms) (stream-append (items_from bindings 2 letters) (closing (2 + length letters))))
 
 pub talk_cut_first : (bindings : List Binding) (letters : List ℕ) (ab ab1 ba ba1 : List ℕ) → CarriesFront (stream (exchange bindings 0 question.GetRoot)) ab ab1 ba ba1 → CarriesFront (stream (talk bindings letters)) ab ab1 ba ba1
 talk_cut_first bindings letters ab ab1 ba ba1 h =
     let F : List (Side × ℕ) → Type 0 = λ s. CarriesFront s ab ab1 ba ba1 in
     subst F (sym (talk_stream bindings letters))
-        (front_more (stream (exchange bindings 0 question.GetRoot)) (stream (exchange bindings 1 question.GetNamespace) ++ (stream (items_from bindings 2 letters) ++ stream (closing (2 + length letters)))) ab ab1 ba ba1 h)
+    (front_more (stream (exchange bindings 0 question.GetRoot)) (stream (exchange bindings 1 question.GetNamespace) ++ (stream (items_from bindings 2 letters) ++ stream (closing (2 + length letters)))) ab ab1 ba ba1 h)
 
 pub talk_cut_second : (bindings : List Binding) (letters : List ℕ) (ab ab1 ab2 ba ba1 ba2 : List ℕ) → Carries (stream (exchange bindings 0 question.GetRoot)) ab ab1 ba ba1
     → CarriesFront (stream (exchange bindings 1 question.GetNamespace)) ab1 ab2 ba1 ba2 → CarriesFront (stream (talk bindings letters)) ab ab2 ba ba2
@@ -102,8 +102,8 @@ talk_cut_second bindings letters ab ab1 ab2 ba ba1 ba2 h k =
     let rest = stream (items_from bindings 2 letters) ++ stream (closing (2 + length letters)) in
     let F : List (Side × ℕ) → Type 0 = λ s. CarriesFront s ab ab2 ba ba2 in
     subst F (sym (talk_stream bindings letters))
-        (front_then (stream (exchange bindings 0 question.GetRoot)) (stream (exchange bindings 1 question.GetNamespace) ++ rest) ab ab1 ab2 ba ba1 ba2 h
-            (front_more (stream (exchange bindings 1 question.GetNamespace)) rest ab1 ab2 ba1 ba2 k))
+    (front_then (stream (exchange bindings 0 question.GetRoot)) (stream (exchange bindings 1 question.GetNamespace) ++ rest) ab ab1 ab2 ba ba1 ba2 h
+    (front_more (stream (exchange bindings 1 question.GetNamespace)) rest ab1 ab2 ba1 ba2 k))
 
 -- after the two exchanges that make `conn`
 pub talk_cut_later : (bindings : List Binding) (letters : List ℕ) (ab ab1 ab2 ab3 ba ba1 ba2 ba3 : List ℕ) → Carries (stream (exchange bindings 0 question.GetRoot)) ab ab1 ba ba1
@@ -113,8 +113,8 @@ talk_cut_later bindings letters ab ab1 ab2 ab3 ba ba1 ba2 ba3 h k m =
     let rest = stream (items_from bindings 2 letters) ++ stream (closing (2 + length letters)) in
     let F : List (Side × ℕ) → Type 0 = λ s. CarriesFront s ab ab3 ba ba3 in
     subst F (sym (talk_stream bindings letters))
-        (front_then (stream (exchange bindings 0 question.GetRoot)) (stream (exchange bindings 1 question.GetNamespace) ++ rest) ab ab1 ab3 ba ba1 ba3 h
-            (front_then (stream (exchange bindings 1 question.GetNamespace)) rest ab1 ab2 ab3 ba1 ba2 ba3 k m))
+    (front_then (stream (exchange bindings 0 question.GetRoot)) (stream (exchange bindings 1 question.GetNamespace) ++ rest) ab ab1 ab3 ba ba1 ba3 h
+    (front_then (stream (exchange bindings 1 question.GetNamespace)) rest ab1 ab2 ab3 ba1 ba2 ba3 k m))
 
 pub talk_whole : (bindings : List Binding) (letters : List ℕ) (ab ab1 ab2 ab3 ba ba1 ba2 ba3 : List ℕ) → Carries (stream (exchange bindings 0 question.GetRoot)) ab ab1 ba ba1
     → Carries (stream (exchange bindings 1 question.GetNamespace)) ab1 ab2 ba1 ba2 → Carries (stream (items_from bindings 2 letters) ++ stream (closing (2 + length letters))) ab2 ab3 ba2 ba3
@@ -123,8 +123,8 @@ talk_whole bindings letters ab ab1 ab2 ab3 ba ba1 ba2 ba3 h k m =
     let rest = stream (items_from bindings 2 letters) ++ stream (closing (2 + length letters)) in
     let F : List (Side × ℕ) → Type 0 = λ s. Carries s ab ab3 ba ba3 in
     subst F (sym (talk_stream bindings letters))
-        (carries_then (stream (exchange bindings 0 question.GetRoot)) (stream (exchange bindings 1 question.GetNamespace) ++ rest) ab ab1 ab3 ba ba1 ba3 h
-            (carries_then (stream (exchange bindings 1 question.GetNamespace)) rest ab1 ab2 ab3 ba1 ba2 ba3 k m))
+    (carries_then (stream (exchange bindings 0 question.GetRoot)) (stream (exchange bindings 1 question.GetNamespace) ++ rest) ab ab1 ab3 ba ba1 ba3 h
+    (carries_then (stream (exchange bindings 1 question.GetNamespace)) rest ab1 ab2 ab3 ba1 ba2 ba3 k m))
 
 -- the closing message
 pub closing_carried : (seq : ℕ) (ab ab1 ba : List ℕ) → ab1 ≡ ab ++ bytes_of (asks (pos seq) question.Close) → Carries (stream (closing seq)) ab ab1 ba ba

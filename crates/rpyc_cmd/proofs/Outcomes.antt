@@ -106,8 +106,8 @@ pub unbound_refused : (s : Stop) (name_a text_a name_b text_b : List ℕ) (lette
     → IfRefused s (λ d. (d.status ≡ status.Script) × ((name : List ℕ) × (line : ℕ) × IsRefusal name_a text_a name_b text_b name line × (string_bytes d.text ≡ script_line name line)))
 unbound_refused s name_a text_a name_b text_b letters bindings asks binds =
     if_refused s (λ d. (d.status ≡ status.Script) × ((line : ℕ) × IsFirstUnbound bindings letters line × (string_bytes d.text ≡ script_line name_a line)))
-        (λ d. (d.status ≡ status.Script) × ((name : List ℕ) × (line : ℕ) × IsRefusal name_a text_a name_b text_b name line × (string_bytes d.text ≡ script_line name line)))
-        (λ d h. (h.0, (name_a, h.1.0, inr (inr (letters, bindings, asks, binds, refl, h.1.1)), h.1.2)))
+    (λ d. (d.status ≡ status.Script) × ((name : List ℕ) × (line : ℕ) × IsRefusal name_a text_a name_b text_b name line × (string_bytes d.text ≡ script_line name line)))
+    (λ d h. (h.0, (name_a, h.1.0, inr (inr (letters, bindings, asks, binds, refl, h.1.1)), h.1.2)))
 
 -- both files were read
 abbrev pub scripts_of : (words : List (List ℕ)) (held held_later : Held) (name_a name_b bytes_a text_a bytes_b text_b : List ℕ) → IsPair words name_a name_b → Holds held name_a bytes_a → text_a ≡ bytes_a
@@ -119,7 +119,7 @@ scripts_of words held held_later name_a name_b bytes_a text_a bytes_b text_b nam
   text_b = text_b;
   named = named;
   read_a = subst (Holds held name_a) (sym e) a;
-  read_b = subst (Holds held name_b) (sym f) (subst (λ h. Holds h name_b bytes_b) kept b)
+  read_b = subst (Holds held name_b) (sym f) (subst (λ h. Holds h name_b bytes_b) kept b);
 }
 
 script_decides_at : (decided : Status) (words : List (List ℕ)) (old new : Outside) (s : Scripts words old.held) (text : List ℕ) → Unbegun old new → decided ≡ status.Script
@@ -133,5 +133,5 @@ pub script_decides : (stopped : Stop) (words : List (List ℕ)) (old new : Outsi
     → IfRefused stopped (λ d. Decides d.status words old new (string_bytes d.text))
 script_decides stopped words old new s same =
     if_refused stopped (λ d. (d.status ≡ status.Script) × ((name : List ℕ) × (line : ℕ) × IsRefusal s.name_a s.text_a s.name_b s.text_b name line × (string_bytes d.text ≡ script_line name line)))
-        (λ d. Decides d.status words old new (string_bytes d.text))
-        (λ d h. script_decides_at d.status words old new s (string_bytes d.text) same h.0 h.1)
+    (λ d. Decides d.status words old new (string_bytes d.text))
+    (λ d h. script_decides_at d.status words old new s (string_bytes d.text) same h.0 h.1)

@@ -39,7 +39,9 @@ pub sendable_item : (n l : ℕ) → n ≤ 159 → IsLetter l → IsSendable (ask
 unfolding brine_computing
 sendable_item n l h k = record {
   spelled = ap (λ b. b && (is_utf8 (l ∷ []) && true && true && true && true && true && true)) (small n h) ∙ ap (λ b. b && true && true && true && true && true && true) (letter_is_text l k);
-  shallow = omega arith; short = omega arith }
+  shallow = omega arith;
+  short = omega arith;
+}
 
 pub sendable_close : (n : ℕ) → n ≤ 159 → IsSendable (asks (pos n) question.Close)
 unfolding brine_computing
@@ -57,7 +59,9 @@ pub sendable_number_reply : (n m : ℕ) → n ≤ 159 → m ≤ 159 → IsSendab
 unfolding brine_computing
 sendable_number_reply n m h k = record {
   spelled = ap (λ b. b && (nat_lt m 160 && true && true)) (small n h) ∙ ap (λ b. b && true && true) (small m k);
-  shallow = omega arith; short = omega arith }
+  shallow = omega arith;
+  short = omega arith;
+}
 
 pub asked_is_read : (n : ℕ) (q : Question) → question_of (asks (pos n) q) ≡ Some (pos n, q)
 unfolding brine_computing

@@ -48,9 +48,10 @@ one_after : (x y z p q : List ℕ) → y ≡ x ++ p → z ≡ y ++ q → z ≡ x
 one_after x y z p q e f = f ∙ ap (λ ms. ms ++ q) e ∙ append_assoc x p q
 
 pub carries_then : (s t : List (Side × ℕ)) (ab ab1 ab2 ba ba1 ba2 : List ℕ) → Carries s ab ab1 ba ba1 → Carries t ab1 ab2 ba1 ba2 → Carries (s ++ t) ab ab2 ba ba2
-carries_then s t ab ab1 ab2 ba ba1 ba2 h k =
-    ( one_after ab ab1 ab2 (from_a s) (from_a t) h.0 k.0 ∙ ap (λ ms. ab ++ ms) (sym (from_a-append s t))
-    , one_after ba ba1 ba2 (from_b s) (from_b t) h.1 k.1 ∙ ap (λ ms. ba ++ ms) (sym (from_b-append s t)))
+carries_then s t ab ab1 ab2 ba ba1 ba2 h k = (
+  one_after ab ab1 ab2 (from_a s) (from_a t) h.0 k.0 ∙ ap (λ ms. ab ++ ms) (sym (from_a-append s t)),
+  one_after ba ba1 ba2 (from_b s) (from_b t) h.1 k.1 ∙ ap (λ ms. ba ++ ms) (sym (from_b-append s t)),
+)
 
 pub front_then : (s t : List (Side × ℕ)) (ab ab1 ab2 ba ba1 ba2 : List ℕ) → Carries s ab ab1 ba ba1 → CarriesFront t ab1 ab2 ba1 ba2 → CarriesFront (s ++ t) ab ab2 ba ba2
 front_then s t ab ab1 ab2 ba ba1 ba2 h k =
@@ -66,16 +67,20 @@ pub front_none : (s : List (Side × ℕ)) (ab ba : List ℕ) → CarriesFront s 
 front_none s ab ba = ([], s, refl, carries_none ab ba)
 
 pub front_a : (bytes ab ab_new ba : List ℕ) → CarriesPart bytes ab ab_new → CarriesFront (sent_by side.A bytes) ab ab_new ba ba
-front_a bytes ab ab_new ba h =
-    ( sent_by side.A h.0, sent_by side.A h.1
-    , ap (sent_by side.A) h.2 ∙ map-append (λ b. (side.A, b)) h.0 h.1
-    , carries_a h.0 ab ab_new ba h.3)
+front_a bytes ab ab_new ba h = (
+  sent_by side.A h.0,
+  sent_by side.A h.1,
+  ap (sent_by side.A) h.2 ∙ map-append (λ b. (side.A, b)) h.0 h.1,
+  carries_a h.0 ab ab_new ba h.3,
+)
 
 pub front_b : (bytes ab ba ba_new : List ℕ) → CarriesPart bytes ba ba_new → CarriesFront (sent_by side.B bytes) ab ab ba ba_new
-front_b bytes ab ba ba_new h =
-    ( sent_by side.B h.0, sent_by side.B h.1
-    , ap (sent_by side.B) h.2 ∙ map-append (λ b. (side.B, b)) h.0 h.1
-    , carries_b h.0 ab ba ba_new h.3)
+front_b bytes ab ba ba_new h = (
+  sent_by side.B h.0,
+  sent_by side.B h.1,
+  ap (sent_by side.B) h.2 ∙ map-append (λ b. (side.B, b)) h.0 h.1,
+  carries_b h.0 ab ba ba_new h.3,
+)
 
 pub front_all : (s : List (Side × ℕ)) (ab ab_new ba ba_new : List ℕ) → Carries s ab ab_new ba ba_new → CarriesFront s ab ab_new ba ba_new
 front_all s ab ab_new ba ba_new h = (s, [], sym (append-nil s), h)

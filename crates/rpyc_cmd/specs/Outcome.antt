@@ -89,7 +89,7 @@ Decides status.Script words old new text =
 Decides status.File words old new text =
     (name_a : List ℕ) × (name_b : List ℕ) × IsPair words name_a name_b × Unbegun old new
     × (IsFileRefusal old.held name_a old.file_faults new.file_faults text
-        ⊎ ((text_a : List ℕ) × Holds old.held name_a text_a × IsFileRefusal old.held name_b old.file_faults new.file_faults text))
+    ⊎ ((text_a : List ℕ) × Holds old.held name_a text_a × IsFileRefusal old.held name_b old.file_faults new.file_faults text))
 Decides status.Device words old new text =
     (s : Scripts words old.held) × (letters : List ℕ) × (bindings : List Binding) × AreAccepted s.text_a s.text_b letters bindings
     × CarriesFront (stream (talk bindings letters)) old.ab new.ab old.ba new.ba
@@ -102,7 +102,7 @@ Decides status.NoMemory words old new text = ⊥
 abbrev pub RunsOut : List (List ℕ) → Outside → Outside → Type 0
 RunsOut words old new = Unbegun old new
     ⊎ ((s : Scripts words old.held) × (letters : List ℕ) × (bindings : List Binding) × AreAccepted s.text_a s.text_b letters bindings
-        × CarriesFront (stream (talk bindings letters)) old.ab new.ab old.ba new.ba)
+    × CarriesFront (stream (talk bindings letters)) old.ab new.ab old.ba new.ba)
 
 -- A text was written whole, or a front of it where the sink's count of faults rose.
 abbrev pub Writes : List ℕ → Option (List ℕ) → ℕ → Option (List ℕ) → ℕ → Type 0

@@ -10,7 +10,9 @@ ghost use Rattle.rpyc_cmd.specs.Words.{IsPair};
 
 use crate::delivery::Cut;
 use crate::pair::{SideA, SideB, converse};
-use crate::report::{PairEnd, RunEnd, not_there_text, pair_report, read_fault_text, script_text, words_text};
+use crate::report::{
+    PairEnd, RunEnd, not_there_text, pair_report, read_fault_text, script_text, words_text,
+};
 use crate::scripts::{Binding, ScriptEnd, bindings, first_unbound, questions};
 use crate::status::Status;
 use crate::words::command;
@@ -35,6 +37,7 @@ pub enum Stop {
 
 impl From<NoMemory> for Stop {
     ghost use Rattle.rpyc_cmd.specs.declared.decide.Stop.TheVariants as stop;
+
     ghost from_gives = { λ _ e. e ≡ stop.NoMemory };
 
     fn from(_error: NoMemory) -> Stop {
@@ -121,7 +124,13 @@ fn check_bound(alloc: Global, name: &str, letters: &[u8], bindings: &[Binding]) 
 }
 
 /// The two scripts, or the first refusal.
-fn accept(alloc: Global, name_a: &str, text_a: &[u8], name_b: &str, text_b: &[u8]) -> Result<Accepted, Stop>
+fn accept(
+    alloc: Global,
+    name_a: &str,
+    text_a: &[u8],
+    name_b: &str,
+    text_b: &[u8],
+) -> Result<Accepted, Stop>
     ensures accepted { IfOk result (λ s. AreAccepted text_a.now text_b.now s.letters.items s.bindings.items) }
     ensures refused { IfErr result (λ e. IfRefused e (λ d. (d.status ≡ Status.Script)
         × ((name : List ℕ) × (line : ℕ) × IsRefusal name_a.now text_a.now name_b.now text_b.now name line × (string_bytes d.text ≡ script_line name line)))) }
@@ -135,7 +144,14 @@ fn accept(alloc: Global, name_a: &str, text_a: &[u8], name_b: &str, text_b: &[u8
 }
 
 /// Begins both wires, A's first, and has the conversation.
-fn begin_and_converse<W: Wire>(alloc: Global, letters: &[u8], a: &mut SideA, b: &mut SideB, ab: &mut W, ba: &mut W) -> Result<(), Cut>
+fn begin_and_converse<W: Wire>(
+    alloc: Global,
+    letters: &[u8],
+    a: &mut SideA,
+    b: &mut SideB,
+    ab: &mut W,
+    ba: &mut W,
+) -> Result<(), Cut>
     requires answered { AreAnswered b.old.bindings.items letters.now }
     requires idle { (a.old.inbox ≡ []) × (b.old.inbox ≡ []) }
     ensures printed { OnOk result (string_bytes a.new.output ≡ string_bytes a.old.output ++ printed b.old.bindings.items letters.now) }
@@ -152,7 +168,12 @@ fn begin_and_converse<W: Wire>(alloc: Global, letters: &[u8], a: &mut SideA, b: 
 }
 
 /// Runs a pair over two wires.
-fn run_pair<W: Wire>(alloc: Global, accepted: Accepted, ab: &mut W, ba: &mut W) -> Result<PairEnd, NoMemory>
+fn run_pair<W: Wire>(
+    alloc: Global,
+    accepted: Accepted,
+    ab: &mut W,
+    ba: &mut W,
+) -> Result<PairEnd, NoMemory>
     requires { AreAnswered accepted.bindings.items accepted.letters.items }
     ensures came { IfOk result (λ e. Came e.end accepted.bindings.items accepted.letters.items (string_bytes e.out_a) e.units e.tables (W.carried ab.old) (W.carried ab.new) (W.carried ba.old) (W.carried ba.new)) }
     ensures silent { IfOk result (λ e. string_bytes e.out_b ≡ []) }
@@ -192,7 +213,12 @@ fn run_pair<W: Wire>(alloc: Global, accepted: Accepted, ab: &mut W, ba: &mut W) 
 }
 
 /// Runs two scripts, and writes their report.
-fn decide_run<W: Wire>(alloc: Global, accepted: Accepted, ab: &mut W, ba: &mut W) -> Result<Decided, NoMemory>
+fn decide_run<W: Wire>(
+    alloc: Global,
+    accepted: Accepted,
+    ab: &mut W,
+    ba: &mut W,
+) -> Result<Decided, NoMemory>
     requires { AreAnswered accepted.bindings.items accepted.letters.items }
     ensures decided { IfOk result (λ d. IsDecided d.status accepted.bindings.items accepted.letters.items (string_bytes d.text)
         (W.carried ab.old) (W.fault_count ab.old) (W.carried ab.new) (W.fault_count ab.new) (W.carried ba.old) (W.fault_count ba.old) (W.carried ba.new) (W.fault_count ba.new)) }
@@ -213,7 +239,14 @@ fn decide_run<W: Wire>(alloc: Global, accepted: Accepted, ab: &mut W, ba: &mut W
 }
 
 /// Reads both files and runs their scripts.
-fn decide_pair<F: Files, W: Wire>(alloc: Global, name_a: &str, name_b: &str, files: &mut F, ab: &mut W, ba: &mut W) -> Result<Decided, Stop>
+fn decide_pair<F: Files, W: Wire>(
+    alloc: Global,
+    name_a: &str,
+    name_b: &str,
+    files: &mut F,
+    ab: &mut W,
+    ba: &mut W,
+) -> Result<Decided, Stop>
     ensures decided { (words : List (List ℕ)) → IsPair words name_a.now name_b.now → IfOk result (λ d. Decides d.status words
         (outside (F.held files.old) (F.fault_count files.old) (W.carried ab.old) (W.fault_count ab.old) (W.carried ba.old) (W.fault_count ba.old))
         (outside (F.held files.new) (F.fault_count files.new) (W.carried ab.new) (W.fault_count ab.new) (W.carried ba.new) (W.fault_count ba.new)) (string_bytes d.text)) }
@@ -237,7 +270,13 @@ fn decide_pair<F: Files, W: Wire>(alloc: Global, name_a: &str, name_b: &str, fil
 }
 
 /// What the program decides on before it writes.
-fn decide<F: Files, W: Wire>(alloc: Global, words: &[String], files: &mut F, ab: &mut W, ba: &mut W) -> Result<Decided, NoMemory>
+fn decide<F: Files, W: Wire>(
+    alloc: Global,
+    words: &[String],
+    files: &mut F,
+    ab: &mut W,
+    ba: &mut W,
+) -> Result<Decided, NoMemory>
     ensures decided { IfOk result (λ d. Decides d.status (map string_bytes words.now)
         (outside (F.held files.old) (F.fault_count files.old) (W.carried ab.old) (W.fault_count ab.old) (W.carried ba.old) (W.fault_count ba.old))
         (outside (F.held files.new) (F.fault_count files.new) (W.carried ab.new) (W.fault_count ab.new) (W.carried ba.new) (W.fault_count ba.new)) (string_bytes d.text)) }
@@ -277,7 +316,14 @@ fn finish<K: Sink>(decided: &Decided, out: &mut K) -> Status
 ///
 /// Everything that is written goes to `out`. The two wires are those from A to B and from B to A; they are begun in
 /// this order, after all refusals and before the run.
-pub fn run_cmd<F: Files, K: Sink, W: Wire>(alloc: Global, words: &[String], files: &mut F, out: &mut K, ab: &mut W, ba: &mut W) -> Status
+pub fn run_cmd<F: Files, K: Sink, W: Wire>(
+    alloc: Global,
+    words: &[String],
+    files: &mut F,
+    out: &mut K,
+    ab: &mut W,
+    ba: &mut W,
+) -> Status
     ensures ends { Ends result (map string_bytes words.now)
         (outside (F.held files.old) (F.fault_count files.old) (W.carried ab.old) (W.fault_count ab.old) (W.carried ba.old) (W.fault_count ba.old))
         (outside (F.held files.new) (F.fault_count files.new) (W.carried ab.new) (W.fault_count ab.new) (W.carried ba.new) (W.fault_count ba.new))

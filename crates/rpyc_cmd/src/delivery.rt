@@ -19,6 +19,7 @@ pub enum Cut {
 
 impl From<NoMemory> for Cut {
     ghost use Rattle.rpyc_cmd.specs.declared.delivery.Cut.TheVariants as cut;
+
     ghost from_gives = { λ _ e. e ≡ cut.NoMemory };
 
     fn from(_error: NoMemory) -> Cut {
@@ -28,6 +29,7 @@ impl From<NoMemory> for Cut {
 
 impl From<Failed> for Cut {
     ghost use Rattle.rpyc_cmd.specs.declared.delivery.Cut.TheVariants as cut;
+
     ghost from_gives = { λ _ e. e ≡ cut.Wire };
 
     fn from(_error: Failed) -> Cut {
@@ -37,6 +39,7 @@ impl From<Failed> for Cut {
 
 impl From<WireEnd> for Cut {
     ghost use Rattle.rpyc_cmd.specs.Talk.{cut_by};
+
     ghost from_gives = { λ w e. e ≡ cut_by w };
 
     fn from(end: WireEnd) -> Cut {
@@ -48,7 +51,12 @@ impl From<WireEnd> for Cut {
 }
 
 /// Sends a message over a wire, and gives it as it was read at the other end.
-pub fn deliver<W: Wire>(alloc: Global, message: &Plain, wire: &mut W, inbox: &mut Deframer) -> Result<Plain, Cut>
+pub fn deliver<W: Wire>(
+    alloc: Global,
+    message: &Plain,
+    wire: &mut W,
+    inbox: &mut Deframer,
+) -> Result<Plain, Cut>
     requires sendable { IsSendable message.now }
     requires idle { (W.queue wire.old ≡ []) × (inbox.old ≡ []) }
     ensures heard { IfOk result (λ heard. heard ≡ message.now) }
@@ -78,7 +86,12 @@ fn frame_bytes(alloc: Global, message: &Plain) -> Result<Vec<u8>, NoMemory>
 }
 
 /// Moves bytes through a wire into an inbox, in pieces as large as the wire has room for.
-fn carry<W: Wire>(alloc: Global, bytes: &[u8], wire: &mut W, inbox: &mut Deframer) -> Result<(), Cut>
+fn carry<W: Wire>(
+    alloc: Global,
+    bytes: &[u8],
+    wire: &mut W,
+    inbox: &mut Deframer,
+) -> Result<(), Cut>
     requires { W.queue wire.old ≡ [] }
     ensures carried { OnOk result (W.carried wire.new ≡ W.carried wire.old ++ bytes.now) }
     ensures given { OnOk result ((W.queue wire.new ≡ []) × (inbox.new ≡ inbox.old ++ bytes.now)) }

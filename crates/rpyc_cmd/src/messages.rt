@@ -56,7 +56,10 @@ const NAMESPACE: &str = "builtins.dict";
 fn identity(alloc: Global, name: &str, class_no: u8, inst_no: u8) -> Result<Plain, NoMemory>
     ensures { IfOk result (λ p. p ≡ identity name.now class_no inst_no) }
 {
-    tuple(alloc, [text(alloc, name)?, number(class_no), number(inst_no)])
+    tuple(
+        alloc,
+        [text(alloc, name)?, number(class_no), number(inst_no)],
+    )
 }
 
 fn request(alloc: Global, seq: u64, handler: Handler, args: Plain) -> Result<Plain, NoMemory>
@@ -114,7 +117,12 @@ pub fn get_root(alloc: Global, seq: u64) -> Result<Plain, NoMemory>
 pub fn get_namespace(alloc: Global, seq: u64, root: &Plain) -> Result<Plain, NoMemory>
     ensures { IfOk result (λ p. p ≡ request (pos seq) handlers.GetAttr (arguments root.now namespace question.GetNamespace)) }
 {
-    request(alloc, seq, Handler::GetAttr, attribute(alloc, root, "namespace")?)
+    request(
+        alloc,
+        seq,
+        Handler::GetAttr,
+        attribute(alloc, root, "namespace")?,
+    )
 }
 
 fn attribute(alloc: Global, object: &Plain, attribute: &str) -> Result<Plain, NoMemory>
@@ -129,7 +137,12 @@ pub fn get_item(alloc: Global, seq: u64, namespace: &Plain, letter: u8) -> Resul
     requires { letter < 128 }
     ensures { IfOk result (λ p. p ≡ request (pos seq) handlers.CallAttr (arguments root namespace.now (question.GetItem letter))) }
 {
-    request(alloc, seq, Handler::CallAttr, item(alloc, namespace, letter)?)
+    request(
+        alloc,
+        seq,
+        Handler::CallAttr,
+        item(alloc, namespace, letter)?,
+    )
 }
 
 fn item(alloc: Global, namespace: &Plain, letter: u8) -> Result<Plain, NoMemory>
@@ -138,7 +151,10 @@ fn item(alloc: Global, namespace: &Plain, letter: u8) -> Result<Plain, NoMemory>
 {
     let object = boxed(alloc, 3, namespace.copy(alloc)?)?;
     let name = name(alloc, "__getitem__")?;
-    boxed_tuple(alloc, [object, name, key(alloc, letter)?, no_values(alloc)?])
+    boxed_tuple(
+        alloc,
+        [object, name, key(alloc, letter)?, no_values(alloc)?],
+    )
 }
 
 fn letter_text(alloc: Global, letter: u8) -> Result<Plain, NoMemory>
@@ -206,7 +222,9 @@ fn is_identity(value: &Plain, wanted: &str, class_no: u64, inst_no: u64) -> bool
     ensures { result ≡ is_identity_in wanted.now class_no inst_no (items_of value.now) }
 {
     match items(value) {
-        Some([name, class, inst]) => is_text(name, wanted) && is_int(class, class_no) && is_int(inst, inst_no),
+        Some([name, class, inst]) => is_text(name, wanted)
+            && is_int(class, class_no)
+            && is_int(inst, inst_no),
         _ => false,
     }
 }
@@ -267,7 +285,8 @@ fn namespace_question(args: &Plain) -> Option<Question>
     ensures { result ≡ namespace_question (content_of 2 args.now) }
 {
     match items(content(args, 2)?)? {
-        [object, name] if is_object(content(object, 3), ROOT, 2) && is_name(name, "namespace") => Some(Question::GetNamespace),
+        [object, name] if is_object(content(object, 3), ROOT, 2) && is_name(name, "namespace") =>
+            Some(Question::GetNamespace),
         _ => None,
     }
 }
@@ -285,7 +304,10 @@ fn item_question(args: &Plain) -> Option<Question>
     ensures { result ≡ item_question (content_of 2 args.now) }
 {
     match items(content(args, 2)?)? {
-        [object, name, keys, keywords] if is_object(content(object, 3), NAMESPACE, 1) && is_name(name, "__getitem__") && is_nothing(keywords) => {
+        [object, name, keys, keywords]
+            if is_object(content(object, 3), NAMESPACE, 1)
+                && is_name(name, "__getitem__")
+                && is_nothing(keywords) => {
             Some(Question::GetItem(letter_in(content(keys, 1)?)?))
         }
         _ => None,

@@ -9,7 +9,10 @@ ghost use Rattle.rpyc_cmd.specs.Scripts.{IsLetter, IsBinding, number_of};
 ghost use Rattle.rpyc_cmd.specs.Talk.{answer, IsAnswered, IsAsked, IsIdle, exchange, stream, Carries, CarriesFront, value_of, items_from, closing, talk, printed, AreAnswered, PrintsFirst, bytes_of, CarriesPart};
 
 use crate::delivery::{Cut, deliver};
-use crate::messages::{self, Question, get_item, get_namespace, get_root, number_by_value, number_in, object_in, own_namespace, own_root, read_question, reply_value};
+use crate::messages::{
+    self, Question, get_item, get_namespace, get_root, number_by_value, number_in, object_in,
+    own_namespace, own_root, read_question, reply_value,
+};
 use crate::scripts::{Binding, number_of};
 use channel_frames::Deframer;
 use rp_base::{NoMemory, Plain};
@@ -59,7 +62,15 @@ fn reply_to(alloc: Global, request: &Plain, bindings: &[Binding]) -> Result<Plai
 }
 
 /// Asks B by a request of this number, and gives the boxed value of B's reply.
-fn ask<W: Wire>(alloc: Global, seq: u64, request: &Plain, a: &mut SideA, b: &mut SideB, ab: &mut W, ba: &mut W) -> Result<Plain, Cut>
+fn ask<W: Wire>(
+    alloc: Global,
+    seq: u64,
+    request: &Plain,
+    a: &mut SideA,
+    b: &mut SideB,
+    ab: &mut W,
+    ba: &mut W,
+) -> Result<Plain, Cut>
     requires asked { IsAsked b.old.bindings.items seq request.now }
     requires idle { IsIdle (W.queue ab.old) (W.queue ba.old) a.old.inbox b.old.inbox }
     ensures answered { (q : Question) → request.now ≡ asks (pos seq) q → IfOk result (λ value. value ≡ answer b.old.bindings.items q) }
@@ -91,7 +102,13 @@ fn object_of(alloc: Global, value: &Plain) -> Result<Plain, NoMemory>
 }
 
 /// Asks B for its root, and gives the root's identity.
-fn ask_root<W: Wire>(alloc: Global, a: &mut SideA, b: &mut SideB, ab: &mut W, ba: &mut W) -> Result<Plain, Cut>
+fn ask_root<W: Wire>(
+    alloc: Global,
+    a: &mut SideA,
+    b: &mut SideB,
+    ab: &mut W,
+    ba: &mut W,
+) -> Result<Plain, Cut>
     requires idle { IsIdle (W.queue ab.old) (W.queue ba.old) a.old.inbox b.old.inbox }
     ensures answered { IfOk result (λ p. p ≡ root) }
     ensures carried { OnOk result (Carries (stream (exchange b.old.bindings.items 0 question.GetRoot)) (W.carried ab.old) (W.carried ab.new) (W.carried ba.old) (W.carried ba.new)) }
@@ -107,7 +124,14 @@ fn ask_root<W: Wire>(alloc: Global, a: &mut SideA, b: &mut SideB, ab: &mut W, ba
 }
 
 /// Asks B for the namespace of its root, and gives the namespace's identity.
-fn ask_namespace<W: Wire>(alloc: Global, object: &Plain, a: &mut SideA, b: &mut SideB, ab: &mut W, ba: &mut W) -> Result<Plain, Cut>
+fn ask_namespace<W: Wire>(
+    alloc: Global,
+    object: &Plain,
+    a: &mut SideA,
+    b: &mut SideB,
+    ab: &mut W,
+    ba: &mut W,
+) -> Result<Plain, Cut>
     requires object { object.now ≡ root }
     requires idle { IsIdle (W.queue ab.old) (W.queue ba.old) a.old.inbox b.old.inbox }
     ensures answered { IfOk result (λ p. p ≡ namespace) }
@@ -132,7 +156,16 @@ fn print(output: &mut String, number: i128) -> Result<(), NoMemory>
 }
 
 /// Asks B for the number of a letter, and prints it.
-fn print_item<W: Wire>(alloc: Global, seq: u64, letter: u8, dict: &Plain, a: &mut SideA, b: &mut SideB, ab: &mut W, ba: &mut W) -> Result<(), Cut>
+fn print_item<W: Wire>(
+    alloc: Global,
+    seq: u64,
+    letter: u8,
+    dict: &Plain,
+    a: &mut SideA,
+    b: &mut SideB,
+    ab: &mut W,
+    ba: &mut W,
+) -> Result<(), Cut>
     requires answered { IsAnswered b.old.bindings.items (question.GetItem letter) × (seq ≤ 159) }
     requires dict { dict.now ≡ namespace }
     requires idle { IsIdle (W.queue ab.old) (W.queue ba.old) a.old.inbox b.old.inbox }
@@ -154,7 +187,15 @@ fn print_item<W: Wire>(alloc: Global, seq: u64, letter: u8, dict: &Plain, a: &mu
 }
 
 /// Asks B for the number of each letter in turn, and prints it.
-fn print_items<W: Wire>(alloc: Global, letters: &[u8], dict: &Plain, a: &mut SideA, b: &mut SideB, ab: &mut W, ba: &mut W) -> Result<(), Cut>
+fn print_items<W: Wire>(
+    alloc: Global,
+    letters: &[u8],
+    dict: &Plain,
+    a: &mut SideA,
+    b: &mut SideB,
+    ab: &mut W,
+    ba: &mut W,
+) -> Result<(), Cut>
     requires answered { AreAnswered b.old.bindings.items letters.now }
     requires dict { dict.now ≡ namespace }
     requires idle { IsIdle (W.queue ab.old) (W.queue ba.old) a.old.inbox b.old.inbox }
@@ -191,7 +232,14 @@ fn close<W: Wire>(alloc: Global, seq: u64, b: &mut SideB, ab: &mut W) -> Result<
 }
 
 /// The whole conversation of a pair over two wires with nothing queued.
-pub fn converse<W: Wire>(alloc: Global, letters: &[u8], a: &mut SideA, b: &mut SideB, ab: &mut W, ba: &mut W) -> Result<(), Cut>
+pub fn converse<W: Wire>(
+    alloc: Global,
+    letters: &[u8],
+    a: &mut SideA,
+    b: &mut SideB,
+    ab: &mut W,
+    ba: &mut W,
+) -> Result<(), Cut>
     requires answered { AreAnswered b.old.bindings.items letters.now }
     requires idle { IsIdle (W.queue ab.old) (W.queue ba.old) a.old.inbox b.old.inbox }
     ensures printed { OnOk result (string_bytes a.new.output ≡ string_bytes a.old.output ++ printed b.old.bindings.items letters.now) }

@@ -23,6 +23,7 @@ pub enum ScriptEnd {
 
 impl<T: Drop> From<AllocFailed<T>> for ScriptEnd {
     ghost use Rattle.rpyc_cmd.specs.declared.scripts.ScriptEnd.TheVariants as script_end;
+
     ghost from_gives = { λ _ e. e ≡ script_end.NoMemory };
 
     fn from(_error: AllocFailed<T>) -> ScriptEnd {
@@ -149,8 +150,12 @@ fn number_in(digits: &[u8]) -> Option<u8>
 {
     match digits {
         [one] if one.is_ascii_digit() => Some(*one - b'0'),
-        [ten, one] if ten.is_ascii_digit() && *ten != b'0' && one.is_ascii_digit() => Some(10 * (*ten - b'0') + (*one - b'0')),
-        [b'1', ten, one] if ten.is_ascii_digit() && *ten < b'6' && one.is_ascii_digit() => Some(100 + 10 * (*ten - b'0') + (*one - b'0')),
+        [ten, one] if ten.is_ascii_digit() && *ten != b'0' && one.is_ascii_digit() => Some(
+            10 * (*ten - b'0') + (*one - b'0'),
+        ),
+        [b'1', ten, one] if ten.is_ascii_digit() && *ten < b'6' && one.is_ascii_digit() => Some(
+            100 + 10 * (*ten - b'0') + (*one - b'0'),
+        ),
         _ => None,
     }
 }

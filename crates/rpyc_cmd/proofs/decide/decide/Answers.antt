@@ -14,13 +14,13 @@ returns-in-Err-Refused-clause-decided g c =
     let words = map (string_bytes {Z = Global}) c.args.words.now in
     let P : Decided → Type 0 = λ d. Decides d.status words (outside (g.F.Files.held c.args.files.now) (g.F.Files.fault_count c.args.files.now) (g.W.Wire.carried c.args.ab.now) (g.W.Wire.fault_count c.args.ab.now) (g.W.Wire.carried c.args.ba.now) (g.W.Wire.fault_count c.args.ba.now)) (outside (g.F.Files.held c.decide_pair.new.files) (g.F.Files.fault_count c.decide_pair.new.files) (g.W.Wire.carried c.decide_pair.new.ab) (g.W.Wire.fault_count c.decide_pair.new.ab) (g.W.Wire.carried c.decide_pair.new.ba) (g.W.Wire.fault_count c.decide_pair.new.ba)) (string_bytes d.text) in
     refused_is c.in-Err-Refused.field-0 c.in-Err-Refused.decided P c.in-Err-Refused.field-0-is
-        (c.in-Err-Refused.ensures.refused words (command_gives words c.in-Ok.pair.a.now c.in-Ok.pair.b.now c.in-Ok.ensures))
+    (c.in-Err-Refused.ensures.refused words (command_gives words c.in-Ok.pair.a.now c.in-Ok.pair.b.now c.in-Ok.ensures))
 
 pub returns-in-Err-NoMemory-clause-cut : goal.returns-in-Err-NoMemory-clause-cut
 returns-in-Err-NoMemory-clause-cut g c =
     let words = map (string_bytes {Z = Global}) c.args.words.now in
     no_memory_is c.in-Err-NoMemory.field-0 (RunsOut words (outside (g.F.Files.held c.args.files.now) (g.F.Files.fault_count c.args.files.now) (g.W.Wire.carried c.args.ab.now) (g.W.Wire.fault_count c.args.ab.now) (g.W.Wire.carried c.args.ba.now) (g.W.Wire.fault_count c.args.ba.now)) (outside (g.F.Files.held c.decide_pair.new.files) (g.F.Files.fault_count c.decide_pair.new.files) (g.W.Wire.carried c.decide_pair.new.ab) (g.W.Wire.fault_count c.decide_pair.new.ab) (g.W.Wire.carried c.decide_pair.new.ba) (g.W.Wire.fault_count c.decide_pair.new.ba))) c.in-Err-NoMemory.field-0-is
-        (c.in-Err-NoMemory.ensures.cut words (command_gives words c.in-Ok.pair.a.now c.in-Ok.pair.b.now c.in-Ok.ensures))
+    (c.in-Err-NoMemory.ensures.cut words (command_gives words c.in-Ok.pair.a.now c.in-Ok.pair.b.now c.in-Ok.ensures))
 
 pub returns-in_ok-words_text-in-Err-clause-decided : goal.returns-in_ok-words_text-in-Err-clause-decided
 returns-in_ok-words_text-in-Err-clause-decided g c =

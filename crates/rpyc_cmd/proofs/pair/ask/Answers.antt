@@ -21,35 +21,35 @@ pub returns-in_err-heard-clause-part : goal.returns-in_err-heard-clause-part
 returns-in_err-heard-clause-part g c = λ q is.
     let F : List (Side × ℕ) → Type 0 = λ s. CarriesFront s (g.W.Wire.carried c.args.ab.now) (g.W.Wire.carried c.deliver.new.wire) (g.W.Wire.carried c.args.ba.now) (g.W.Wire.carried c.args.ba.now) in
     on_err c.from_residual.result (F (stream (exchange c.args.b.now.bindings.items c.args.seq q)))
-        (in_exchange F c.args.b.now.bindings.items c.args.seq q c.args.request.now (reply (pos c.args.seq) (answer c.args.b.now.bindings.items q)) is refl
-            (asked_part c.args.request.now (reply (pos c.args.seq) (answer c.args.b.now.bindings.items q)) (g.W.Wire.carried c.args.ab.now) (g.W.Wire.carried c.deliver.new.wire) (g.W.Wire.carried c.args.ba.now) c.in_err-heard.ensures.part))
+    (in_exchange F c.args.b.now.bindings.items c.args.seq q c.args.request.now (reply (pos c.args.seq) (answer c.args.b.now.bindings.items q)) is refl
+    (asked_part c.args.request.now (reply (pos c.args.seq) (answer c.args.b.now.bindings.items q)) (g.W.Wire.carried c.args.ab.now) (g.W.Wire.carried c.deliver.new.wire) (g.W.Wire.carried c.args.ba.now) c.in_err-heard.ensures.part))
 
 pub returns-in_err-reply-clause-part : goal.returns-in_err-reply-clause-part
 returns-in_err-reply-clause-part g c = λ q is.
     let F : List (Side × ℕ) → Type 0 = λ s. CarriesFront s (g.W.Wire.carried c.args.ab.now) (g.W.Wire.carried c.deliver.new.wire) (g.W.Wire.carried c.args.ba.now) (g.W.Wire.carried c.args.ba.now) in
     on_err c.from_residual-in_err-reply.result (F (stream (exchange c.args.b.now.bindings.items c.args.seq q)))
-        (in_exchange F c.args.b.now.bindings.items c.args.seq q c.args.request.now (reply (pos c.args.seq) (answer c.args.b.now.bindings.items q)) is refl
-            (asked_whole c.args.request.now (reply (pos c.args.seq) (answer c.args.b.now.bindings.items q)) (g.W.Wire.carried c.args.ab.now) (g.W.Wire.carried c.deliver.new.wire) (g.W.Wire.carried c.args.ba.now) c.in_ok-heard.ensures.carried))
+    (in_exchange F c.args.b.now.bindings.items c.args.seq q c.args.request.now (reply (pos c.args.seq) (answer c.args.b.now.bindings.items q)) is refl
+    (asked_whole c.args.request.now (reply (pos c.args.seq) (answer c.args.b.now.bindings.items q)) (g.W.Wire.carried c.args.ab.now) (g.W.Wire.carried c.deliver.new.wire) (g.W.Wire.carried c.args.ba.now) c.in_ok-heard.ensures.carried))
 
 pub returns-in_err-heard-2-clause-part : goal.returns-in_err-heard-2-clause-part
 returns-in_err-heard-2-clause-part g c = λ q is.
     let F : List (Side × ℕ) → Type 0 = λ s. CarriesFront s (g.W.Wire.carried c.args.ab.now) (g.W.Wire.carried c.deliver.new.wire) (g.W.Wire.carried c.args.ba.now) (g.W.Wire.carried c.deliver-2.new.wire) in
     let said : c.in_ok-reply.reply ≡ reply (pos c.args.seq) (answer c.args.b.now.bindings.items q) = c.in_ok-reply.ensures c.args.seq q (c.in_ok-heard.ensures.heard ∙ is) ∙ ap (λ bs. reply (pos c.args.seq) (answer bs q)) c.deref.ensures.value in
     on_err c.from_residual-in_err-heard-2.result (F (stream (exchange c.args.b.now.bindings.items c.args.seq q)))
-        (in_exchange F c.args.b.now.bindings.items c.args.seq q c.args.request.now c.in_ok-reply.reply is said
-            (replied_part c.args.request.now c.in_ok-reply.reply (g.W.Wire.carried c.args.ab.now) (g.W.Wire.carried c.deliver.new.wire) (g.W.Wire.carried c.args.ba.now) (g.W.Wire.carried c.deliver-2.new.wire) c.in_ok-heard.ensures.carried c.in_err-heard-2.ensures.part))
+    (in_exchange F c.args.b.now.bindings.items c.args.seq q c.args.request.now c.in_ok-reply.reply is said
+    (replied_part c.args.request.now c.in_ok-reply.reply (g.W.Wire.carried c.args.ab.now) (g.W.Wire.carried c.deliver.new.wire) (g.W.Wire.carried c.args.ba.now) (g.W.Wire.carried c.deliver-2.new.wire) c.in_ok-heard.ensures.carried c.in_err-heard-2.ensures.part))
 
 pub returns-in_err-copy-in-Some-clause-part : goal.returns-in_err-copy-in-Some-clause-part
 returns-in_err-copy-in-Some-clause-part g c = λ q is.
     let F : List (Side × ℕ) → Type 0 = λ s. CarriesFront s (g.W.Wire.carried c.args.ab.now) (g.W.Wire.carried c.deliver.new.wire) (g.W.Wire.carried c.args.ba.now) (g.W.Wire.carried c.deliver-2.new.wire) in
     let said : c.in_ok-reply.reply ≡ reply (pos c.args.seq) (answer c.args.b.now.bindings.items q) = c.in_ok-reply.ensures c.args.seq q (c.in_ok-heard.ensures.heard ∙ is) ∙ ap (λ bs. reply (pos c.args.seq) (answer bs q)) c.deref.ensures.value in
     on_err c.from_residual-in_err-copy-in-Some.result (F (stream (exchange c.args.b.now.bindings.items c.args.seq q)))
-        (in_exchange F c.args.b.now.bindings.items c.args.seq q c.args.request.now c.in_ok-reply.reply is said
-            (replied_front c.args.request.now c.in_ok-reply.reply (g.W.Wire.carried c.args.ab.now) (g.W.Wire.carried c.deliver.new.wire) (g.W.Wire.carried c.args.ba.now) (g.W.Wire.carried c.deliver-2.new.wire) c.in_ok-heard.ensures.carried c.in_ok-heard-2.ensures.carried))
+    (in_exchange F c.args.b.now.bindings.items c.args.seq q c.args.request.now c.in_ok-reply.reply is said
+    (replied_front c.args.request.now c.in_ok-reply.reply (g.W.Wire.carried c.args.ab.now) (g.W.Wire.carried c.deliver.new.wire) (g.W.Wire.carried c.args.ba.now) (g.W.Wire.carried c.deliver-2.new.wire) c.in_ok-heard.ensures.carried c.in_ok-heard-2.ensures.carried))
 
 pub returns-clause-carried : goal.returns-clause-carried
 returns-clause-carried g c = λ q is.
     let F : List (Side × ℕ) → Type 0 = λ s. Carries s (g.W.Wire.carried c.args.ab.now) (g.W.Wire.carried c.deliver.new.wire) (g.W.Wire.carried c.args.ba.now) (g.W.Wire.carried c.deliver-2.new.wire) in
     let said : c.in_ok-reply.reply ≡ reply (pos c.args.seq) (answer c.args.b.now.bindings.items q) = c.in_ok-reply.ensures c.args.seq q (c.in_ok-heard.ensures.heard ∙ is) ∙ ap (λ bs. reply (pos c.args.seq) (answer bs q)) c.deref.ensures.value in
     in_exchange F c.args.b.now.bindings.items c.args.seq q c.args.request.now c.in_ok-reply.reply is said
-        (replied_whole c.args.request.now c.in_ok-reply.reply (g.W.Wire.carried c.args.ab.now) (g.W.Wire.carried c.deliver.new.wire) (g.W.Wire.carried c.args.ba.now) (g.W.Wire.carried c.deliver-2.new.wire) c.in_ok-heard.ensures.carried c.in_ok-heard-2.ensures.carried)
+    (replied_whole c.args.request.now c.in_ok-reply.reply (g.W.Wire.carried c.args.ab.now) (g.W.Wire.carried c.deliver.new.wire) (g.W.Wire.carried c.args.ba.now) (g.W.Wire.carried c.deliver-2.new.wire) c.in_ok-heard.ensures.carried c.in_ok-heard-2.ensures.carried)

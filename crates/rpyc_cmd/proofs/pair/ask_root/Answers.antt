@@ -12,7 +12,7 @@ pub returns-in_err-value-clause-part : goal.returns-in_err-value-clause-part
 returns-in_err-value-clause-part g c =
     let asked : c.in_ok-request.request ≡ asks (pos 0) question.GetRoot = c.in_ok-request.ensures in
     on_err c.from_residual-in_err-value.result (CarriesFront (stream (exchange c.args.b.now.bindings.items 0 question.GetRoot)) (g.W.Wire.carried c.args.ab.now) (g.W.Wire.carried c.ask.new.ab) (g.W.Wire.carried c.args.ba.now) (g.W.Wire.carried c.ask.new.ba))
-        (c.in_err-value.ensures.part question.GetRoot asked)
+    (c.in_err-value.ensures.part question.GetRoot asked)
 
 pub object_of-requires : goal.object_of-requires
 object_of-requires g c =
@@ -23,7 +23,7 @@ pub returns-in_err-object_of-clause-part : goal.returns-in_err-object_of-clause-
 returns-in_err-object_of-clause-part g c =
     let asked : c.in_ok-request.request ≡ asks (pos 0) question.GetRoot = c.in_ok-request.ensures in
     on_err c.from_residual-in_err-object_of.result (CarriesFront (stream (exchange c.args.b.now.bindings.items 0 question.GetRoot)) (g.W.Wire.carried c.args.ab.now) (g.W.Wire.carried c.ask.new.ab) (g.W.Wire.carried c.args.ba.now) (g.W.Wire.carried c.ask.new.ba))
-        (front_all (stream (exchange c.args.b.now.bindings.items 0 question.GetRoot)) (g.W.Wire.carried c.args.ab.now) (g.W.Wire.carried c.ask.new.ab) (g.W.Wire.carried c.args.ba.now) (g.W.Wire.carried c.ask.new.ba) (c.in_ok-value.ensures.carried question.GetRoot asked))
+    (front_all (stream (exchange c.args.b.now.bindings.items 0 question.GetRoot)) (g.W.Wire.carried c.args.ab.now) (g.W.Wire.carried c.ask.new.ab) (g.W.Wire.carried c.args.ba.now) (g.W.Wire.carried c.ask.new.ba) (c.in_ok-value.ensures.carried question.GetRoot asked))
 
 pub returns-clause-answered : goal.returns-clause-answered
 returns-clause-answered g c =

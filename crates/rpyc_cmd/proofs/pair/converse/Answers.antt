@@ -13,7 +13,7 @@ returns-in_err-object-clause-part g c =
     let bindings = c.args.b.now.bindings.items in
     let letters = c.args.letters.now in
     on_err c.from_residual.result (CarriesFront (stream (talk bindings letters)) (g.W.Wire.carried c.args.ab.now) (g.W.Wire.carried c.ask_root.new.ab) (g.W.Wire.carried c.args.ba.now) (g.W.Wire.carried c.ask_root.new.ba))
-        (talk_cut_first bindings letters (g.W.Wire.carried c.args.ab.now) (g.W.Wire.carried c.ask_root.new.ab) (g.W.Wire.carried c.args.ba.now) (g.W.Wire.carried c.ask_root.new.ba) c.in_err-object.ensures.part)
+    (talk_cut_first bindings letters (g.W.Wire.carried c.args.ab.now) (g.W.Wire.carried c.ask_root.new.ab) (g.W.Wire.carried c.args.ba.now) (g.W.Wire.carried c.ask_root.new.ba) c.in_err-object.ensures.part)
 
 pub returns-in_err-dict-clause-part : goal.returns-in_err-dict-clause-part
 returns-in_err-dict-clause-part g c =
@@ -22,7 +22,7 @@ returns-in_err-dict-clause-part g c =
     let kept : c.ask_root.new.b.bindings.items ≡ bindings = ap (λ v. v.items) c.ask_root.ensures.kept.1 in
     let second : List Binding → Type 0 = λ bs. CarriesFront (stream (exchange bs 1 question.GetNamespace)) (g.W.Wire.carried c.ask_root.new.ab) (g.W.Wire.carried c.ask_namespace.new.ab) (g.W.Wire.carried c.ask_root.new.ba) (g.W.Wire.carried c.ask_namespace.new.ba) in
     on_err c.from_residual-in_err-dict.result (CarriesFront (stream (talk bindings letters)) (g.W.Wire.carried c.args.ab.now) (g.W.Wire.carried c.ask_namespace.new.ab) (g.W.Wire.carried c.args.ba.now) (g.W.Wire.carried c.ask_namespace.new.ba))
-        (talk_cut_second bindings letters (g.W.Wire.carried c.args.ab.now) (g.W.Wire.carried c.ask_root.new.ab) (g.W.Wire.carried c.ask_namespace.new.ab) (g.W.Wire.carried c.args.ba.now) (g.W.Wire.carried c.ask_root.new.ba) (g.W.Wire.carried c.ask_namespace.new.ba) c.in_ok-object.ensures.carried (subst second kept c.in_err-dict.ensures.part))
+    (talk_cut_second bindings letters (g.W.Wire.carried c.args.ab.now) (g.W.Wire.carried c.ask_root.new.ab) (g.W.Wire.carried c.ask_namespace.new.ab) (g.W.Wire.carried c.args.ba.now) (g.W.Wire.carried c.ask_root.new.ba) (g.W.Wire.carried c.ask_namespace.new.ba) c.in_ok-object.ensures.carried (subst second kept c.in_err-dict.ensures.part))
 
 pub returns-in_err-print_items-clause-part : goal.returns-in_err-print_items-clause-part
 returns-in_err-print_items-clause-part g c =
@@ -34,8 +34,8 @@ returns-in_err-print_items-clause-part g c =
     let met : second bindings = subst second kept c.in_ok-dict.ensures.carried in
     let third : List Binding → Type 0 = λ bs. CarriesFront (stream (items_from bs 2 letters)) (g.W.Wire.carried c.ask_namespace.new.ab) (g.W.Wire.carried c.print_items.new.ab) (g.W.Wire.carried c.ask_namespace.new.ba) (g.W.Wire.carried c.print_items.new.ba) in
     on_err c.from_residual-in_err-print_items.result (CarriesFront (stream (talk bindings letters)) (g.W.Wire.carried c.args.ab.now) (g.W.Wire.carried c.print_items.new.ab) (g.W.Wire.carried c.args.ba.now) (g.W.Wire.carried c.print_items.new.ba))
-        (talk_cut_later bindings letters (g.W.Wire.carried c.args.ab.now) (g.W.Wire.carried c.ask_root.new.ab) (g.W.Wire.carried c.ask_namespace.new.ab) (g.W.Wire.carried c.print_items.new.ab) (g.W.Wire.carried c.args.ba.now) (g.W.Wire.carried c.ask_root.new.ba) (g.W.Wire.carried c.ask_namespace.new.ba) (g.W.Wire.carried c.print_items.new.ba) c.in_ok-object.ensures.carried met
-            (front_more (stream (items_from bindings 2 letters)) (stream (closing (2 + length letters))) (g.W.Wire.carried c.ask_namespace.new.ab) (g.W.Wire.carried c.print_items.new.ab) (g.W.Wire.carried c.ask_namespace.new.ba) (g.W.Wire.carried c.print_items.new.ba) (subst third still c.in_err-print_items.ensures.part)))
+    (talk_cut_later bindings letters (g.W.Wire.carried c.args.ab.now) (g.W.Wire.carried c.ask_root.new.ab) (g.W.Wire.carried c.ask_namespace.new.ab) (g.W.Wire.carried c.print_items.new.ab) (g.W.Wire.carried c.args.ba.now) (g.W.Wire.carried c.ask_root.new.ba) (g.W.Wire.carried c.ask_namespace.new.ba) (g.W.Wire.carried c.print_items.new.ba) c.in_ok-object.ensures.carried met
+    (front_more (stream (items_from bindings 2 letters)) (stream (closing (2 + length letters))) (g.W.Wire.carried c.ask_namespace.new.ab) (g.W.Wire.carried c.print_items.new.ab) (g.W.Wire.carried c.ask_namespace.new.ba) (g.W.Wire.carried c.print_items.new.ba) (subst third still c.in_err-print_items.ensures.part)))
 
 pub returns-in_err-close-clause-part : goal.returns-in_err-close-clause-part
 returns-in_err-close-clause-part g c =
@@ -48,9 +48,9 @@ returns-in_err-close-clause-part g c =
     let third : List Binding → Type 0 = λ bs. Carries (stream (items_from bs 2 letters)) (g.W.Wire.carried c.ask_namespace.new.ab) (g.W.Wire.carried c.print_items.new.ab) (g.W.Wire.carried c.ask_namespace.new.ba) (g.W.Wire.carried c.print_items.new.ba) in
     let asked : third bindings = subst third still c.in_ok-print_items.ensures.carried in
     on_err c.from_residual-in_err-close.result (CarriesFront (stream (talk bindings letters)) (g.W.Wire.carried c.args.ab.now) (g.W.Wire.carried c.close.new.ab) (g.W.Wire.carried c.args.ba.now) (g.W.Wire.carried c.print_items.new.ba))
-        (talk_cut_later bindings letters (g.W.Wire.carried c.args.ab.now) (g.W.Wire.carried c.ask_root.new.ab) (g.W.Wire.carried c.ask_namespace.new.ab) (g.W.Wire.carried c.close.new.ab) (g.W.Wire.carried c.args.ba.now) (g.W.Wire.carried c.ask_root.new.ba) (g.W.Wire.carried c.ask_namespace.new.ba) (g.W.Wire.carried c.print_items.new.ba) c.in_ok-object.ensures.carried met
-            (front_then (stream (items_from bindings 2 letters)) (stream (closing (2 + length letters))) (g.W.Wire.carried c.ask_namespace.new.ab) (g.W.Wire.carried c.print_items.new.ab) (g.W.Wire.carried c.close.new.ab) (g.W.Wire.carried c.ask_namespace.new.ba) (g.W.Wire.carried c.print_items.new.ba) (g.W.Wire.carried c.print_items.new.ba) asked
-                (closing_part (2 + length letters) (g.W.Wire.carried c.print_items.new.ab) (g.W.Wire.carried c.close.new.ab) (g.W.Wire.carried c.print_items.new.ba) c.in_err-close.ensures.part)))
+    (talk_cut_later bindings letters (g.W.Wire.carried c.args.ab.now) (g.W.Wire.carried c.ask_root.new.ab) (g.W.Wire.carried c.ask_namespace.new.ab) (g.W.Wire.carried c.close.new.ab) (g.W.Wire.carried c.args.ba.now) (g.W.Wire.carried c.ask_root.new.ba) (g.W.Wire.carried c.ask_namespace.new.ba) (g.W.Wire.carried c.print_items.new.ba) c.in_ok-object.ensures.carried met
+    (front_then (stream (items_from bindings 2 letters)) (stream (closing (2 + length letters))) (g.W.Wire.carried c.ask_namespace.new.ab) (g.W.Wire.carried c.print_items.new.ab) (g.W.Wire.carried c.close.new.ab) (g.W.Wire.carried c.ask_namespace.new.ba) (g.W.Wire.carried c.print_items.new.ba) (g.W.Wire.carried c.print_items.new.ba) asked
+    (closing_part (2 + length letters) (g.W.Wire.carried c.print_items.new.ab) (g.W.Wire.carried c.close.new.ab) (g.W.Wire.carried c.print_items.new.ba) c.in_err-close.ensures.part)))
 
 pub returns-in_err-close-clause-some_printed : goal.returns-in_err-close-clause-some_printed
 returns-in_err-close-clause-some_printed g c = λ _.
@@ -58,10 +58,11 @@ returns-in_err-close-clause-some_printed g c = λ _.
     let letters = c.args.letters.now in
     let kept : c.ask_root.new.b.bindings.items ≡ bindings = ap (λ v. v.items) c.ask_root.ensures.kept.1 in
     let still : c.ask_namespace.new.b.bindings.items ≡ bindings = ap (λ v. v.items) (c.ask_namespace.ensures.kept.1 ∙ c.ask_root.ensures.kept.1) in
-    let start : c.ask_namespace.new.a.output ≡ c.args.a.now.output = c.ask_namespace.ensures.kept.0 ∙ c.ask_root.ensures.kept.0 in
-    ( length letters
-    , c.in_ok-print_items.ensures.printed ∙ ap (λ o. string_bytes o ++ printed c.ask_namespace.new.b.bindings.items letters) start
-      ∙ ap (λ bs. string_bytes c.args.a.now.output ++ printed bs letters) still ∙ ap (λ ls. string_bytes c.args.a.now.output ++ printed bindings ls) (sym (take-length letters)))
+    let start : c.ask_namespace.new.a.output ≡ c.args.a.now.output = c.ask_namespace.ensures.kept.0 ∙ c.ask_root.ensures.kept.0 in (
+      length letters,
+      c.in_ok-print_items.ensures.printed ∙ ap (λ o. string_bytes o ++ printed c.ask_namespace.new.b.bindings.items letters) start
+          ∙ ap (λ bs. string_bytes c.args.a.now.output ++ printed bs letters) still ∙ ap (λ ls. string_bytes c.args.a.now.output ++ printed bindings ls) (sym (take-length letters)),
+    )
 
 pub returns-clause-carried : goal.returns-clause-carried
 returns-clause-carried g c =
@@ -74,5 +75,5 @@ returns-clause-carried g c =
     let third : List Binding → Type 0 = λ bs. Carries (stream (items_from bs 2 letters)) (g.W.Wire.carried c.ask_namespace.new.ab) (g.W.Wire.carried c.print_items.new.ab) (g.W.Wire.carried c.ask_namespace.new.ba) (g.W.Wire.carried c.print_items.new.ba) in
     let asked : third bindings = subst third still c.in_ok-print_items.ensures.carried in
     talk_whole bindings letters (g.W.Wire.carried c.args.ab.now) (g.W.Wire.carried c.ask_root.new.ab) (g.W.Wire.carried c.ask_namespace.new.ab) (g.W.Wire.carried c.close.new.ab) (g.W.Wire.carried c.args.ba.now) (g.W.Wire.carried c.ask_root.new.ba) (g.W.Wire.carried c.ask_namespace.new.ba) (g.W.Wire.carried c.print_items.new.ba) c.in_ok-object.ensures.carried met
-        (carries_then (stream (items_from bindings 2 letters)) (stream (closing (2 + length letters))) (g.W.Wire.carried c.ask_namespace.new.ab) (g.W.Wire.carried c.print_items.new.ab) (g.W.Wire.carried c.close.new.ab) (g.W.Wire.carried c.ask_namespace.new.ba) (g.W.Wire.carried c.print_items.new.ba) (g.W.Wire.carried c.print_items.new.ba) asked
-            (closing_carried (2 + length letters) (g.W.Wire.carried c.print_items.new.ab) (g.W.Wire.carried c.close.new.ab) (g.W.Wire.carried c.print_items.new.ba) c.in_ok-close.ensures.carried))
+    (carries_then (stream (items_from bindings 2 letters)) (stream (closing (2 + length letters))) (g.W.Wire.carried c.ask_namespace.new.ab) (g.W.Wire.carried c.print_items.new.ab) (g.W.Wire.carried c.close.new.ab) (g.W.Wire.carried c.ask_namespace.new.ba) (g.W.Wire.carried c.print_items.new.ba) (g.W.Wire.carried c.print_items.new.ba) asked
+    (closing_carried (2 + length letters) (g.W.Wire.carried c.print_items.new.ab) (g.W.Wire.carried c.close.new.ab) (g.W.Wire.carried c.print_items.new.ba) c.in_ok-close.ensures.carried))

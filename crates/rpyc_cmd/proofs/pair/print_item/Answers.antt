@@ -26,40 +26,40 @@ pub ask-requires-clause-asked : goal.ask-requires-clause-asked
 ask-requires-clause-asked g c =
     let bindings = c.args.b.now.bindings.items in
     let asked : c.in_ok-request.request ≡ asks (pos c.args.seq) (question.GetItem c.args.letter) =
-        c.in_ok-request.ensures ∙ ap (λ d. request (pos c.args.seq) handlers.CallAttr (arguments root d (question.GetItem c.args.letter))) c.requires.dict in
+    c.in_ok-request.ensures ∙ ap (λ d. request (pos c.args.seq) handlers.CallAttr (arguments root d (question.GetItem c.args.letter))) c.requires.dict in
     (question.GetItem c.args.letter, asked, c.requires.answered.0, c.requires.answered.1)
 
 pub returns-in_err-value-clause-part : goal.returns-in_err-value-clause-part
 returns-in_err-value-clause-part g c =
     let bindings = c.args.b.now.bindings.items in
     let asked : c.in_ok-request.request ≡ asks (pos c.args.seq) (question.GetItem c.args.letter) =
-        c.in_ok-request.ensures ∙ ap (λ d. request (pos c.args.seq) handlers.CallAttr (arguments root d (question.GetItem c.args.letter))) c.requires.dict in
+    c.in_ok-request.ensures ∙ ap (λ d. request (pos c.args.seq) handlers.CallAttr (arguments root d (question.GetItem c.args.letter))) c.requires.dict in
     on_err c.from_residual-in_err-value.result (CarriesFront (stream (exchange bindings c.args.seq (question.GetItem c.args.letter))) (g.W.Wire.carried c.args.ab.now) (g.W.Wire.carried c.ask.new.ab) (g.W.Wire.carried c.args.ba.now) (g.W.Wire.carried c.ask.new.ba))
-        (c.in_err-value.ensures.part (question.GetItem c.args.letter) asked)
+    (c.in_err-value.ensures.part (question.GetItem c.args.letter) asked)
 
 pub returns-in_err-print-in-Some-clause-part : goal.returns-in_err-print-in-Some-clause-part
 returns-in_err-print-in-Some-clause-part g c =
     let bindings = c.args.b.now.bindings.items in
     let asked : c.in_ok-request.request ≡ asks (pos c.args.seq) (question.GetItem c.args.letter) =
-        c.in_ok-request.ensures ∙ ap (λ d. request (pos c.args.seq) handlers.CallAttr (arguments root d (question.GetItem c.args.letter))) c.requires.dict in
+    c.in_ok-request.ensures ∙ ap (λ d. request (pos c.args.seq) handlers.CallAttr (arguments root d (question.GetItem c.args.letter))) c.requires.dict in
     on_err c.from_residual-in_err-print-in-Some.result (CarriesFront (stream (exchange bindings c.args.seq (question.GetItem c.args.letter))) (g.W.Wire.carried c.args.ab.now) (g.W.Wire.carried c.ask.new.ab) (g.W.Wire.carried c.args.ba.now) (g.W.Wire.carried c.ask.new.ba))
-        (front_all (stream (exchange bindings c.args.seq (question.GetItem c.args.letter))) (g.W.Wire.carried c.args.ab.now) (g.W.Wire.carried c.ask.new.ab) (g.W.Wire.carried c.args.ba.now) (g.W.Wire.carried c.ask.new.ba) (c.in_ok-value.ensures.carried (question.GetItem c.args.letter) asked))
+    (front_all (stream (exchange bindings c.args.seq (question.GetItem c.args.letter))) (g.W.Wire.carried c.args.ab.now) (g.W.Wire.carried c.ask.new.ab) (g.W.Wire.carried c.args.ba.now) (g.W.Wire.carried c.ask.new.ba) (c.in_ok-value.ensures.carried (question.GetItem c.args.letter) asked))
 
 pub unreachable-requires : goal.unreachable-requires
 unreachable-requires g c =
     let bindings = c.args.b.now.bindings.items in
     let asked : c.in_ok-request.request ≡ asks (pos c.args.seq) (question.GetItem c.args.letter) =
-        c.in_ok-request.ensures ∙ ap (λ d. request (pos c.args.seq) handlers.CallAttr (arguments root d (question.GetItem c.args.letter))) c.requires.dict in
+    c.in_ok-request.ensures ∙ ap (λ d. request (pos c.args.seq) handlers.CallAttr (arguments root d (question.GetItem c.args.letter))) c.requires.dict in
     absent (pos (value_of bindings c.args.letter)) (number_in c.in_ok-value.value) c.in-None.ensures (ap number_in (c.in_ok-value.ensures.answered (question.GetItem c.args.letter) asked) ∙ number_is_read (value_of bindings c.args.letter))
 
 pub returns-clause-printed : goal.returns-clause-printed
 returns-clause-printed g c =
     let bindings = c.args.b.now.bindings.items in
     let asked : c.in_ok-request.request ≡ asks (pos c.args.seq) (question.GetItem c.args.letter) =
-        c.in_ok-request.ensures ∙ ap (λ d. request (pos c.args.seq) handlers.CallAttr (arguments root d (question.GetItem c.args.letter))) c.requires.dict in
+    c.in_ok-request.ensures ∙ ap (λ d. request (pos c.args.seq) handlers.CallAttr (arguments root d (question.GetItem c.args.letter))) c.requires.dict in
     let read : c.in-Some.number ≡ pos (value_of bindings c.args.letter) =
-        same_number c.in-Some.number (pos (value_of bindings c.args.letter))
-            (c.in-Some.ensures ∙ ap number_in (c.in_ok-value.ensures.answered (question.GetItem c.args.letter) asked) ∙ number_is_read (value_of bindings c.args.letter)) in
+    same_number c.in-Some.number (pos (value_of bindings c.args.letter))
+    (c.in-Some.ensures ∙ ap number_in (c.in_ok-value.ensures.answered (question.GetItem c.args.letter) asked) ∙ number_is_read (value_of bindings c.args.letter)) in
     c.in_ok-print-in-Some.ensures ∙ ap (λ o. string_bytes o ++ (signed_decimal (to_z w128 (of_z w128 c.in-Some.number)) ++ 10 ∷ [])) c.in_ok-value.ensures.kept.0
     ∙ ap (λ n. string_bytes c.args.a.now.output ++ (signed_decimal (to_z w128 (of_z w128 n)) ++ 10 ∷ [])) read
     ∙ ap (λ n. string_bytes c.args.a.now.output ++ (signed_decimal n ++ 10 ∷ [])) (as_it_is (value_of bindings c.args.letter) c.requires.answered.0.2)
@@ -68,5 +68,5 @@ pub returns-clause-carried : goal.returns-clause-carried
 returns-clause-carried g c =
     let bindings = c.args.b.now.bindings.items in
     let asked : c.in_ok-request.request ≡ asks (pos c.args.seq) (question.GetItem c.args.letter) =
-        c.in_ok-request.ensures ∙ ap (λ d. request (pos c.args.seq) handlers.CallAttr (arguments root d (question.GetItem c.args.letter))) c.requires.dict in
+    c.in_ok-request.ensures ∙ ap (λ d. request (pos c.args.seq) handlers.CallAttr (arguments root d (question.GetItem c.args.letter))) c.requires.dict in
     c.in_ok-value.ensures.carried (question.GetItem c.args.letter) asked

@@ -10,9 +10,10 @@ lines-preserved c =
     let h = c.lines.invariant in
     let read = read_binding_gives c.split_line.result.0.now c.in-Some.binding (sym c.in-Some.ensures) in
     let Kept : List Binding → Type 0 = λ bindings. (lines_of c.args.text.now ≡ map binding_line bindings ++ lines_of c.split_line.result.1.now) × All IsBinding bindings in
-    subst Kept (sym c.in_ok-push.ensures.items)
-        ( lines_more binding_line (lines_of c.args.text.now) (lines_of c.lines.rest.now) (lines_of c.split_line.result.1.now) c.split_line.result.0.now c.lines.bindings.items c.in-Some.binding h.0 c.split_line.ensures.lines read.1
-        , All-push IsBinding c.lines.bindings.items c.in-Some.binding h.1 read.0)
+    subst Kept (sym c.in_ok-push.ensures.items) (
+      lines_more binding_line (lines_of c.args.text.now) (lines_of c.lines.rest.now) (lines_of c.split_line.result.1.now) c.split_line.result.0.now c.lines.bindings.items c.in-Some.binding h.0 c.split_line.ensures.lines read.1,
+      All-push IsBinding c.lines.bindings.items c.in-Some.binding h.1 read.0,
+    )
 
 pub returns-in_default-clause-refused : goal.returns-in_default-clause-refused
 returns-in_default-clause-refused c = λ line e.
@@ -25,5 +26,5 @@ returns-in_default-clause-refused c = λ line e.
       lines = h.0 ∙ ap (λ ms. map binding_line c.lines.bindings.items ++ ms) c.split_line.ensures.lines;
       in_range = h.1;
       place = omega (arith, place, c.len.ensures, c.lines.bindings.ok.0);
-      refused = binds_nothing c.split_line.result.0.now c.in_default.ensures
+      refused = binds_nothing c.split_line.result.0.now c.in_default.ensures;
     }

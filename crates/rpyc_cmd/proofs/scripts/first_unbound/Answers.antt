@@ -21,7 +21,7 @@ returns-then-is_none-clause-found c = λ line e.
       asked = split_at c.args.letters.now c.loop-index.index 0 c.loop-index-test.true;
       bound = c.loop-index.invariant;
       place = place_of c.loop-index.index line (length c.args.letters.now) c.args.letters.now c.loop-index-test.true refl e;
-      unbound = sym c.number_of.ensures ∙ missing c.number_of.result c.if-is_none.ensures
+      unbound = sym c.number_of.ensures ∙ missing c.number_of.result c.if-is_none.ensures;
     }
 
 pub returns-clause-none : goal.returns-clause-none

@@ -1,0 +1,213 @@
+use crate::decide::run_cmd;
+use crate::status::Status;
+use std::alloc::{AllocError, Global};
+use std::process::Abort;
+use std::test::Fail;
+use wire_io::{MemFiles, MemSink, MemWire};
+
+const A: &[u8] = b"print(conn.namespace[\"x\"])\n";
+
+const B: &[u8] = b"x = 5\n";
+
+const REPORT: &str = "B 0\nA 2\n5\nend done\nunits 12\ntables A 0 B 2\n";
+
+/// The devices of a run in memory.
+struct Devices {
+    files: MemFiles,
+    out: MemSink,
+    ab: MemWire,
+    ba: MemWire,
+}
+
+/// Files `a.py` and `b.py`, a sink and two wires that never fail.
+fn devices(alloc: Global, a: &[u8], b: &[u8]) -> Result<Devices, AllocError> {
+    let mut held = Vec::new(alloc);
+    held.push((String::from_str(alloc, "a.py")?, a.to_vec(alloc)?))?;
+    held.push((String::from_str(alloc, "b.py")?, b.to_vec(alloc)?))?;
+    Ok(Devices {
+        files: MemFiles::new(held, Vec::new(alloc)),
+        out: MemSink::new(alloc, 4096, Vec::new(alloc)),
+        ab: MemWire::new(alloc, 4096, Vec::new(alloc)),
+        ba: MemWire::new(alloc, 4096, Vec::new(alloc)),
+    })
+}
+
+fn run(alloc: Global, words: &[&str], devices: &mut Devices) -> Result<Status, AllocError> {
+    let mut owned = Vec::new(alloc);
+    for word in words {
+        owned.push(String::from_str(alloc, word)?)?;
+    }
+    Ok(run_cmd(
+        alloc,
+        &owned,
+        &mut devices.files,
+        &mut devices.out,
+        &mut devices.ab,
+        &mut devices.ba,
+    ))
+}
+
+/// Runs `pair a.py b.py` on two texts, and compares the status and all that was written.
+fn check(
+    rt: &impl Abort,
+    alloc: Global,
+    a: &[u8],
+    b: &[u8],
+    status: Status,
+    text: &str,
+) -> Result<(), AllocError> {
+    let mut devices = devices(alloc, a, b)?;
+    let ended = run(alloc, &["pair", "a.py", "b.py"], &mut devices)?;
+    assert_eq!(rt; ended, status);
+    assert_eq!(rt; devices.out.taken(), text.as_bytes());
+    Ok(())
+}
+
+#[test]
+fn the_first_pair_and_its_frames(rt: HostRuntime) -> Result<(), Fail> {
+    let alloc = rt.alloc();
+    let mut devices = devices(alloc, A, B)?;
+    let ended = run(alloc, &["pair", "a.py", "b.py"], &mut devices)?;
+    assert_eq!(rt; ended, Status::Done);
+    assert_eq!(rt; devices.out.taken(), REPORT.as_bytes());
+    let mut sent = Vec::new(alloc);
+    sent.extend_from_slice(b"\x00\x00\x00\x08\x00\x12\x51\x50\x11\x53\x11\x51\x02\x0a")?;
+    sent.extend_from_slice(
+        b"\x00\x00\x00\x3c\x00\x12\x51\x51\x11\x54\x11\x52\x11\x11\x53\x12\x08\x0e\x1e",
+    )?;
+    sent.extend_from_slice(
+        b"rpyc.core.service.SlaveService\x50\x52\x11\x51\x08\x0e\x09namespace\x0a",
+    )?;
+    sent.extend_from_slice(
+        b"\x00\x00\x00\x36\x00\x12\x51\x52\x11\x58\x11\x52\x13\x11\x53\x12\x08\x0e\x0dbuiltins.dict\x50\x51",
+    )?;
+    sent.extend_from_slice(
+        b"\x11\x51\x08\x0e\x0b__getitem__\x11\x51\x10\x08\x0a\x78\x11\x51\x02\x0a",
+    )?;
+    sent.extend_from_slice(b"\x00\x00\x00\x08\x00\x12\x51\x53\x11\x52\x11\x51\x02\x0a")?;
+    assert_eq!(rt; devices.ab.carried(), sent.as_slice());
+    let mut answered = Vec::new(alloc);
+    answered.extend_from_slice(
+        b"\x00\x00\x00\x29\x00\x12\x52\x50\x11\x54\x12\x08\x0e\x1erpyc.core.service.SlaveService\x50\x52\x0a",
+    )?;
+    answered.extend_from_slice(
+        b"\x00\x00\x00\x18\x00\x12\x52\x51\x11\x54\x12\x08\x0e\x0dbuiltins.dict\x50\x51\x0a",
+    )?;
+    answered.extend_from_slice(b"\x00\x00\x00\x06\x00\x12\x52\x52\x11\x51\x55\x0a")?;
+    assert_eq!(rt; devices.ba.carried(), answered.as_slice());
+    Ok(())
+}
+
+#[test]
+fn texts_and_their_reports(rt: HostRuntime) -> Result<(), Fail> {
+    let alloc = rt.alloc();
+    check(
+        &rt,
+        alloc,
+        b"",
+        b"",
+        Status::Done,
+        "B 0\nA 0\nend done\nunits 2\ntables A 0 B 2\n",
+    )?;
+    let two = b"print(conn.namespace[\"y\"])\nprint(conn.namespace[\"x\"])";
+    check(
+        &rt,
+        alloc,
+        two,
+        b"x = 0\ny = 159\nx = 10\n",
+        Status::Done,
+        "B 0\nA 7\n159\n10\nend done\nunits 24\ntables A 0 B 2\n",
+    )?;
+    check(
+        &rt,
+        alloc,
+        b"print(1)\n",
+        B,
+        Status::Script,
+        "rpyc: a.py line 1 rule NotYet\n",
+    )?;
+    check(
+        &rt,
+        alloc,
+        b"print(1)\n",
+        b"x = 05\n",
+        Status::Script,
+        "rpyc: a.py line 1 rule NotYet\n",
+    )?;
+    check(
+        &rt,
+        alloc,
+        b"print(conn.namespace[\"z\"])\n",
+        b"x = 5\nx = 160\n",
+        Status::Script,
+        "rpyc: b.py line 2 rule NotYet\n",
+    )?;
+    check(
+        &rt,
+        alloc,
+        b"print(conn.namespace[\"x\"])\nprint(conn.namespace[\"z\"])\n",
+        B,
+        Status::Script,
+        "rpyc: a.py line 2 rule NotYet\n",
+    )?;
+    let mut many = Vec::new(alloc);
+    for _ in 0..100 {
+        many.extend_from_slice(A)?;
+    }
+    many.extend_from_slice(b"\n")?;
+    check(
+        &rt,
+        alloc,
+        &many,
+        b"no\n",
+        Status::Script,
+        "rpyc: a.py line 101 rule NotYet\n",
+    )?;
+    Ok(())
+}
+
+#[test]
+fn words_and_files(rt: HostRuntime) -> Result<(), Fail> {
+    let alloc = rt.alloc();
+    let mut short = devices(alloc, A, B)?;
+    let ended = run(alloc, &["pair", "a.py"], &mut short)?;
+    assert_eq!(rt; ended, Status::Words);
+    assert_eq!(rt; short.out.taken(), b"rpyc: words at 2\n".as_slice());
+    let mut absent = devices(alloc, A, B)?;
+    let ended = run(alloc, &["pair", "gone.py", "b.py"], &mut absent)?;
+    assert_eq!(rt; ended, Status::File);
+    assert_eq!(rt; absent.out.taken(), b"rpyc: gone.py not there\n".as_slice());
+    let mut broken = devices(alloc, A, B)?;
+    let mut held = Vec::new(alloc);
+    held.push((String::from_str(alloc, "a.py")?, A.to_vec(alloc)?))?;
+    broken.files = MemFiles::new(held, [2].to_vec(alloc)?);
+    let ended = run(alloc, &["pair", "a.py", "b.py"], &mut broken)?;
+    assert_eq!(rt; ended, Status::File);
+    assert_eq!(rt; broken.out.taken(), b"rpyc: b.py read fault\n".as_slice());
+    Ok(())
+}
+
+#[test]
+fn devices_that_fail(rt: HostRuntime) -> Result<(), Fail> {
+    let alloc = rt.alloc();
+    let mut cut = devices(alloc, A, B)?;
+    cut.ab = MemWire::new(alloc, 4096, [3].to_vec(alloc)?);
+    let ended = run(alloc, &["pair", "a.py", "b.py"], &mut cut)?;
+    assert_eq!(rt; ended, Status::Device);
+    assert_eq!(rt;
+        cut.out.taken(),
+        b"B 0\nA 0\nend wire\nunits -\ntables -\n".as_slice()
+    );
+    let mut narrow = devices(alloc, A, B)?;
+    narrow.ab = MemWire::new(alloc, 1, Vec::new(alloc));
+    narrow.ba = MemWire::new(alloc, 3, Vec::new(alloc));
+    let ended = run(alloc, &["pair", "a.py", "b.py"], &mut narrow)?;
+    assert_eq!(rt; ended, Status::Done);
+    assert_eq!(rt; narrow.out.taken(), REPORT.as_bytes());
+    let mut full = devices(alloc, A, B)?;
+    full.out = MemSink::new(alloc, 10, [2].to_vec(alloc)?);
+    let ended = run(alloc, &["pair", "a.py", "b.py"], &mut full)?;
+    assert_eq!(rt; ended, Status::Output);
+    assert_eq!(rt; full.out.taken(), b"B 0\nA 2\n5\n".as_slice());
+    Ok(())
+}
