@@ -12,6 +12,7 @@ const B: &[u8] = b"x = 5\n";
 const REPORT: &str = "B 0\nA 2\n5\nend done\nunits 12\ntables A 0 B 2\n";
 
 /// The devices of a run in memory.
+#[derive(Drop)]
 struct Devices {
     files: MemFiles,
     out: MemSink,
@@ -20,7 +21,7 @@ struct Devices {
 }
 
 /// Files `a.py` and `b.py`, a sink and two wires that never fail.
-fn devices(alloc: Global, a: &[u8], b: &[u8]) -> Result<Devices, AllocError> {
+fn make_devices(alloc: Global, a: &[u8], b: &[u8]) -> Result<Devices, AllocError> {
     let mut held = Vec::new(alloc);
     held.push((String::from_str(alloc, "a.py")?, a.to_vec(alloc)?))?;
     held.push((String::from_str(alloc, "b.py")?, b.to_vec(alloc)?))?;
@@ -56,7 +57,7 @@ fn check(
     status: Status,
     text: &str,
 ) -> Result<(), AllocError> {
-    let mut devices = devices(alloc, a, b)?;
+    let mut devices = make_devices(alloc, a, b)?;
     let ended = run(alloc, &["pair", "a.py", "b.py"], &mut devices)?;
     assert_eq!(rt; ended, status);
     assert_eq!(rt; devices.out.taken(), text.as_bytes());
@@ -66,7 +67,7 @@ fn check(
 #[test]
 fn the_first_pair_and_its_frames(rt: HostRuntime) -> Result<(), Fail> {
     let alloc = rt.alloc();
-    let mut devices = devices(alloc, A, B)?;
+    let mut devices = make_devices(alloc, A, B)?;
     let ended = run(alloc, &["pair", "a.py", "b.py"], &mut devices)?;
     assert_eq!(rt; ended, Status::Done);
     assert_eq!(rt; devices.out.taken(), REPORT.as_bytes());
@@ -169,15 +170,15 @@ fn texts_and_their_reports(rt: HostRuntime) -> Result<(), Fail> {
 #[test]
 fn words_and_files(rt: HostRuntime) -> Result<(), Fail> {
     let alloc = rt.alloc();
-    let mut short = devices(alloc, A, B)?;
+    let mut short = make_devices(alloc, A, B)?;
     let ended = run(alloc, &["pair", "a.py"], &mut short)?;
     assert_eq!(rt; ended, Status::Words);
     assert_eq!(rt; short.out.taken(), b"rpyc: words at 2\n".as_slice());
-    let mut absent = devices(alloc, A, B)?;
+    let mut absent = make_devices(alloc, A, B)?;
     let ended = run(alloc, &["pair", "gone.py", "b.py"], &mut absent)?;
     assert_eq!(rt; ended, Status::File);
     assert_eq!(rt; absent.out.taken(), b"rpyc: gone.py not there\n".as_slice());
-    let mut broken = devices(alloc, A, B)?;
+    let mut broken = make_devices(alloc, A, B)?;
     let mut held = Vec::new(alloc);
     held.push((String::from_str(alloc, "a.py")?, A.to_vec(alloc)?))?;
     broken.files = MemFiles::new(held, [2].to_vec(alloc)?);
@@ -190,7 +191,7 @@ fn words_and_files(rt: HostRuntime) -> Result<(), Fail> {
 #[test]
 fn devices_that_fail(rt: HostRuntime) -> Result<(), Fail> {
     let alloc = rt.alloc();
-    let mut cut = devices(alloc, A, B)?;
+    let mut cut = make_devices(alloc, A, B)?;
     cut.ab = MemWire::new(alloc, 4096, [3].to_vec(alloc)?);
     let ended = run(alloc, &["pair", "a.py", "b.py"], &mut cut)?;
     assert_eq!(rt; ended, Status::Device);
@@ -198,13 +199,13 @@ fn devices_that_fail(rt: HostRuntime) -> Result<(), Fail> {
         cut.out.taken(),
         b"B 0\nA 0\nend wire\nunits -\ntables -\n".as_slice()
     );
-    let mut narrow = devices(alloc, A, B)?;
+    let mut narrow = make_devices(alloc, A, B)?;
     narrow.ab = MemWire::new(alloc, 1, Vec::new(alloc));
     narrow.ba = MemWire::new(alloc, 3, Vec::new(alloc));
     let ended = run(alloc, &["pair", "a.py", "b.py"], &mut narrow)?;
     assert_eq!(rt; ended, Status::Done);
     assert_eq!(rt; narrow.out.taken(), REPORT.as_bytes());
-    let mut full = devices(alloc, A, B)?;
+    let mut full = make_devices(alloc, A, B)?;
     full.out = MemSink::new(alloc, 10, [2].to_vec(alloc)?);
     let ended = run(alloc, &["pair", "a.py", "b.py"], &mut full)?;
     assert_eq!(rt; ended, Status::Output);
