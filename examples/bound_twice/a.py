@@ -1,0 +1,3 @@
+print(conn.namespace["x"])
+print(conn.namespace["y"])
+print(conn.namespace["x"])

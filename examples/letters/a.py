@@ -1,0 +1,4 @@
+print(conn.namespace["z"])
+print(conn.namespace["a"])
+print(conn.namespace["b"])
+print(conn.namespace["z"])
