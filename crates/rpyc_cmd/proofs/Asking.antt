@@ -1,12 +1,12 @@
 -- What the wires carry while one request is asked and answered.
-use Rattle.std.proofs.Common.{◌≡◌, ◌∙◌, ℕ, ◌≤◌, ◌++◌, List, [], ◌∷◌, ap, sym, refl, subst, pos, append-nil}
+use Rattle.std.proofs.Common.{◌≡◌, ℕ, ◌++◌, List, [], sym, subst, pos, append-nil}
 use Rattle.rp_base.specs.declared.ends.Side.{Side}
 use Rattle.rp_base.specs.declared.ends.Side.TheVariants as side
 use Rattle.rp_base.specs.declared.plain.Plain.{Plain}
 use Rattle.rpyc_cmd.specs.declared.messages.Question.{Question}
 use Rattle.rpyc_cmd.specs.declared.scripts.Binding.{Binding}
 use Rattle.rpyc_cmd.specs.Messages.{asks, reply}
-use Rattle.rpyc_cmd.specs.Talk.{answer, exchange, stream, sent_by, bytes_of, Carries, CarriesFront, CarriesPart, IsAsked, IsSendable, IsAnswered}
+use Rattle.rpyc_cmd.specs.Talk.{answer, exchange, stream, sent_by, bytes_of, Carries, CarriesFront, CarriesPart, IsAsked, IsSendable}
 use Rattle.rpyc_cmd.proofs.Sendable.{sendable_reply}
 use Rattle.rpyc_cmd.proofs.Traffic.{carries_a, carries_b, carries_then, front_a, front_b, front_then, front_more, front_of_whole}
 

@@ -1,13 +1,12 @@
 -- One message through a wire and a deframer.
-use Rattle.std.proofs.Common.{◌≡◌, ◌∙◌, ℕ, ◌+◌, ◌-◌, ◌≤◌, ◌++◌, List, [], length, take, drop, ap, sym, subst, refl, append-nil, append_assoc, Result, Ok, Err, Option, Some, None, IsTrue, arith, OnErr, min, length-take, length-drop}
-use Rattle.std.proofs.lemmas.Grind.{common_steps}
+use Rattle.std.proofs.Common.{◌≡◌, ◌∙◌, ℕ, ◌+◌, ◌-◌, ◌≤◌, ◌++◌, List, [], length, take, drop, ap, sym, subst, append-nil, append_assoc, Result, Ok, Err, Option, Some, None, IsTrue, arith, OnErr, min, length-take, length-drop}
 use Rattle.std.proofs.lemmas.List.{take-append-drop, take-take}
 use Rattle.std.proofs.Math.Seq.{take-add}
 use Rattle.rp_base.specs.declared.plain.Plain.{Plain}
 use Rattle.brine_codec.specs.Spelling.{spelling, spellable}
 use Rattle.brine_codec.proofs.Meets.{spelled_once}
 use Rattle.channel_frames.proofs.Judging.{front-whole}
-use Rattle.channel_frames.specs.Frames.{front, frame_of, Front, Whole, Reads}
+use Rattle.channel_frames.specs.Frames.{front, Front, Whole, Reads}
 use Rattle.channel_frames.specs.declared.fault.FrameFault.{FrameFault}
 use Rattle.channel_frames.specs.declared.fault.FrameFault.TheVariants as frame_fault
 use Rattle.rpyc_cmd.specs.Talk.{IsSendable, CarriesPart, bytes_of}

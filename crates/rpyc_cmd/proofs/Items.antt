@@ -1,5 +1,5 @@
 -- The exchanges of A's lines, one after the other.
-use Rattle.std.proofs.Common.{◌≡◌, ◌∙◌, ℕ, ◌+◌, ◌<◌, ◌≤◌, ◌++◌, List, [], ◌∷◌, ap, sym, refl, subst, take, drop, length, append_assoc, append-nil, get_or, suc, zero, arith, take-suc, pos}
+use Rattle.std.proofs.Common.{◌≡◌, ◌∙◌, ℕ, ◌+◌, ◌<◌, ◌≤◌, ◌++◌, List, [], ◌∷◌, ap, sym, refl, subst, take, drop, length, append_assoc, append-nil, get_or, suc, arith, take-suc, pos}
 use Rattle.std.proofs.Math.ListN.{drop_of_length-le}
 use Rattle.std.specs.Fmt.{decimal}
 use Rattle.std.proofs.Math.Seq.{drop-cons}
@@ -7,7 +7,6 @@ use Rattle.rp_base.specs.declared.ends.Side.{Side}
 use Rattle.rp_base.specs.declared.ends.Side.TheVariants as side
 use Rattle.rp_base.specs.declared.plain.Plain.{Plain}
 use Rattle.rpyc_cmd.specs.Messages.{asks}
-use Rattle.rpyc_cmd.specs.declared.messages.Question.{Question}
 use Rattle.rpyc_cmd.specs.declared.messages.Question.TheVariants as question
 use Rattle.rpyc_cmd.specs.declared.scripts.Binding.{Binding}
 use Rattle.rpyc_cmd.specs.Talk.{exchange, stream, sent_by, bytes_of, Carries, CarriesFront, CarriesPart, items_from, closing, talk, printed, value_of}

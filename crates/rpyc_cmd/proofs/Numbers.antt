@@ -1,6 +1,5 @@
 -- Numbers of at most three digits.
-use Rattle.std.proofs.Common.{◌≡◌, ℕ, ◌+◌, ◌-◌, ◌*◌, ◌/◌, ◌%◌, ◌<◌, ◌≤◌, ◌++◌, zero, suc, ◌⊎◌, inl, inr, cond, List, [], ◌∷◌, Option, Some, None, Bool, true, false, arith, ap, sym, ◌∙◌, refl, nat_lt, nat_eq, subst, ◌&&◌, length, not, nat_le, ◌≢◌}
-use Rattle.std.proofs.lemmas.Grind.{common_steps}
+use Rattle.std.proofs.Common.{◌≡◌, ℕ, ◌+◌, ◌-◌, ◌*◌, ◌/◌, ◌%◌, ◌<◌, ◌≤◌, ◌++◌, zero, suc, ◌⊎◌, inl, inr, List, [], ◌∷◌, Option, Some, None, Bool, true, false, arith, ap, sym, ◌∙◌, refl, nat_lt, nat_eq, ◌&&◌, not, nat_le, ◌≢◌}
 use Rattle.std.proofs.lemmas.Fmt.{decimal_digit, decimal_step}
 use Rattle.std.proofs.lemmas.Option.{cond_some}
 use Rattle.std.proofs.lemmas.Bool.{eqb-true, leb-true, ltb-true, eq-eqb}

@@ -1,20 +1,19 @@
 -- From what the parts of the program say to what a whole run does.
-use Rattle.std.proofs.Common.{◌≡◌, ◌∙◌, ℕ, ◌+◌, ◌-◌, ◌<◌, ◌≤◌, ◌++◌, List, [], ◌∷◌, Option, Some, None, Bool, true, false, ap, sym, refl, subst, ◌⊎◌, inl, inr, All, IsSome, length, get_or, suc, zero, arith, cond, reverse, find, unwrap_or, option_map, ◌==◌, string_bytes}
+use Rattle.std.proofs.Common.{◌≡◌, ℕ, ◌-◌, ◌<◌, ◌≤◌, List, [], ◌∷◌, Option, Some, None, Bool, true, false, sym, refl, subst, inl, inr, All, length, get_or, suc, arith, cond, reverse, find, unwrap_or, option_map, ◌==◌, string_bytes}
 use Rattle.std.proofs.lemmas.List.{get_or-reverse, length-reverse}
 use Rattle.wire_io.specs.Devices.{Rose, Wrote, IsPart}
 use Rattle.rpyc_cmd.specs.declared.decide.Decided.{Decided}
 use Rattle.rpyc_cmd.specs.declared.decide.Stop.{Stop}
 use Rattle.rpyc_cmd.specs.declared.decide.Stop.TheVariants as stop
-use Rattle.rpyc_cmd.specs.declared.messages.Question.TheVariants as question
 use Rattle.rpyc_cmd.specs.declared.scripts.Binding.{Binding}
 use Rattle.rpyc_cmd.specs.declared.status.Status.{Status}
 use Rattle.rpyc_cmd.specs.declared.status.Status.TheVariants as status
 use Rattle.rpyc_cmd.specs.Deciding.{IfRefused, IfNoMemory, IsDecided, Finished, after_fault}
-use Rattle.rpyc_cmd.specs.Outcome.{Held, Holds, Unbegun, IsRefusal, Outside, Scripts, AreAccepted, Decides, Ends, Writes}
-use Rattle.rpyc_cmd.specs.Scripts.{IsLetter, IsBinding, number_of, AsksFor, Binds, IsFirstUnbound}
+use Rattle.rpyc_cmd.specs.Outcome.{Held, Holds, Unbegun, IsRefusal, Outside, Scripts, AreAccepted, Decides, Ends}
+use Rattle.rpyc_cmd.specs.Scripts.{IsBinding, AsksFor, Binds, IsFirstUnbound}
 use Rattle.rpyc_cmd.specs.Report.{script_line}
 use Rattle.rpyc_cmd.specs.Words.{IsPair}
-use Rattle.rpyc_cmd.specs.Talk.{AreAnswered, IsAnswered, value_of}
+use Rattle.rpyc_cmd.specs.Talk.{AreAnswered, value_of}
 
 pub if_refused : (s : Stop) (P Q : Decided → Type 0) → ((d : Decided) → P d → Q d) → IfRefused s P → IfRefused s Q
 if_refused (stop.Refused d) P Q f h = f d h

@@ -1,14 +1,12 @@
 -- The messages of this stage have a spelling, and are read as what was said.
-use Rattle.std.proofs.Common.{◌≡◌, ◌∙◌, ℕ, ℤ, ◌≤◌, ◌<◌, List, [], ◌∷◌, length, ap, sym, refl, pos, Bool, true, false, ◌&&◌, nat_lt, nat_eq, arith, codes, zero, suc, Option, Some, None, cond, subst}
+use Rattle.std.proofs.Common.{◌≡◌, ◌∙◌, ℕ, ◌≤◌, List, [], ◌∷◌, ap, sym, refl, pos, true, ◌&&◌, nat_lt, arith, Some, None, cond, subst}
 use Rattle.std.specs.Str.{is_utf8, chars}
 use Rattle.std.specs.Ordering.{int_eq}
-use Rattle.std.proofs.lemmas.Bool.{lt-ltb, eq-eqb}
+use Rattle.std.proofs.lemmas.Bool.{lt-ltb}
 use Rattle.std.proofs.lemmas.Cmp.{int_eq_equiv}
 use lib.Utf8.{encode}
 use Rattle.rp_base.specs.declared.plain.Plain.{Plain}
-use Rattle.rp_base.specs.PlainValues.{plain_depth}
 use Rattle.brine_codec.specs.Computing.{brine_computing}
-use Rattle.brine_codec.specs.Spelling.{spelling, spellable}
 use Rattle.rpyc_cmd.specs.declared.messages.Question.{Question}
 use Rattle.rpyc_cmd.specs.declared.messages.Question.TheVariants as question
 use Rattle.rpyc_cmd.specs.Messages.{asks, reply, root, namespace, senders, by_value, number, question_of, reply_value_of, object_in, number_in}

@@ -1,5 +1,5 @@
 -- What wires carry, step by step.
-use Rattle.std.proofs.Common.{◌≡◌, ◌∙◌, ℕ, ◌++◌, List, [], ◌∷◌, ap, sym, refl, append-nil, append_assoc, map}
+use Rattle.std.proofs.Common.{◌≡◌, ◌∙◌, ℕ, ◌++◌, List, [], ◌∷◌, ap, sym, refl, append-nil, append_assoc}
 use Rattle.std.proofs.lemmas.List.{map-append}
 use Rattle.rp_base.specs.declared.ends.Side.{Side}
 use Rattle.rp_base.specs.declared.ends.Side.TheVariants as side

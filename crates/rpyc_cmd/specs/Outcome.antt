@@ -1,5 +1,5 @@
 -- What a run of the program makes of its words, its files and its wires, and what it writes.
-use Rattle.std.specs.Prelude.{◌≡◌, ℕ, List, [], ◌++◌, Option, Some, None, ◌⊎◌, All, IsSome, take}
+use Rattle.std.specs.Prelude.{◌≡◌, ℕ, List, [], Option, Some, None, ◌⊎◌, All, IsSome, take}
 use Rattle.wire_io.specs.Devices.{Rose, Wrote, IsPart}
 use Rattle.rpyc_cmd.specs.declared.scripts.Binding.{Binding}
 use Rattle.rpyc_cmd.specs.declared.status.Status.{Status}

@@ -2,7 +2,7 @@
 use Rattle.std.specs.Char.{is_ascii_digit}
 use Rattle.std.specs.Int.{is_in_range}
 use Rattle.std.specs.Str.{bytes_eq}
-use Rattle.std.specs.Prelude.{◌≡◌, ℕ, ◌-◌, ◌*◌, ◌&&◌, not, nat_lt, Bool, ◌+◌, ◌<◌, ◌≤◌, ◌==◌, if◌then◌else◌, List, [], ◌∷◌, ◌++◌, All, length, take, drop, map, codes, Option, Some, None, ◌⊎◌, slice_get, find, reverse, option_map, IsSome}
+use Rattle.std.specs.Prelude.{◌≡◌, ℕ, ◌-◌, ◌*◌, ◌&&◌, not, nat_lt, ◌+◌, ◌≤◌, ◌==◌, if◌then◌else◌, List, [], ◌∷◌, ◌++◌, All, length, take, drop, map, codes, Option, Some, None, ◌⊎◌, find, reverse, option_map, IsSome}
 use Rattle.std.specs.Fmt.{decimal}
 use Rattle.rpyc_cmd.specs.declared.scripts.Binding.{Binding}
 

@@ -1,4 +1,4 @@
-use Rattle.std.proofs.Common.{◌≡◌, refl, inr, string_bytes}
+use Rattle.std.proofs.Common.{refl, inr, string_bytes}
 use Rattle.rpyc_cmd.specs.Outcome.{outside}
 use Rattle.rpyc_cmd.proofs.Outcomes.{are_answered, run_decides, script_decides, scripts_of}
 use Rattle.rpyc_cmd.proofs.decide.decide_pair.Goals as goal

@@ -1,4 +1,4 @@
-use Rattle.std.proofs.Common.{◌≡◌, ◌∙◌, ◌+◌, ◌≤◌, ◌++◌, ap, sym, take, drop, ◌-◌, length, arith, subst, [], List, ℕ}
+use Rattle.std.proofs.Common.{◌≡◌, ◌∙◌, ◌+◌, ◌++◌, ap, take, drop, ◌-◌, arith}
 use Rattle.rpyc_cmd.specs.Talk.{CarriesPart}
 use Rattle.rpyc_cmd.proofs.Delivering.{on_err, part_of_pieces, piece_more}
 use Rattle.rpyc_cmd.proofs.delivery.carry.Goals as goal

@@ -1,5 +1,4 @@
-use Rattle.std.proofs.Common.{◌∙◌, sym, ap, Err, Vec, Global, ℕ, Result}
-use Rattle.rp_base.specs.declared.plain.Plain.{Plain}
+use Rattle.std.proofs.Common.{◌∙◌, ap, Err, Vec, Global, ℕ}
 use Rattle.brine_codec.specs.declared.ends.DecodeEnd.{DecodeEnd}
 use Rattle.rpyc_cmd.proofs.Delivering.{reads_some, reads_none, reads_fault, spelled_same}
 use Rattle.rpyc_cmd.proofs.delivery.next_message.Goals as goal

@@ -1,7 +1,6 @@
-use Rattle.std.proofs.Common.{◌≡◌, ◌∙◌, sym, ap, subst, pos, List, ℕ, refl}
+use Rattle.std.proofs.Common.{◌≡◌, ◌∙◌, ap, pos, List, ℕ, refl}
 use Rattle.rp_base.specs.declared.ends.Side.{Side}
-use Rattle.rp_base.specs.declared.plain.Plain.{Plain}
-use Rattle.rpyc_cmd.specs.Messages.{asks, reply}
+use Rattle.rpyc_cmd.specs.Messages.{reply}
 use Rattle.rpyc_cmd.specs.Talk.{answer, exchange, stream, Carries, CarriesFront}
 use Rattle.rpyc_cmd.proofs.Asking.{asked_part, asked_whole, replied_part, replied_whole, replied_front, in_exchange, reply_sendable}
 use Rattle.rpyc_cmd.proofs.Delivering.{on_err}

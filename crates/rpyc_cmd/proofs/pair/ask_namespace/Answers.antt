@@ -1,8 +1,7 @@
-use Rattle.std.proofs.Common.{◌≡◌, ◌∙◌, ap, pos, List, ℕ}
-use Rattle.rp_base.specs.declared.ends.Side.{Side}
+use Rattle.std.proofs.Common.{◌≡◌, ◌∙◌, ap, pos}
 use Rattle.rp_base.specs.declared.handlers.Handler.TheVariants as handlers
 use Rattle.rpyc_cmd.specs.declared.messages.Question.TheVariants as question
-use Rattle.rpyc_cmd.specs.Messages.{asks, request, arguments, root, namespace}
+use Rattle.rpyc_cmd.specs.Messages.{asks, request, arguments, namespace}
 use Rattle.rpyc_cmd.specs.Talk.{exchange, stream, CarriesFront}
 use Rattle.rpyc_cmd.proofs.Delivering.{on_err}
 use Rattle.rpyc_cmd.proofs.Traffic.{front_all}

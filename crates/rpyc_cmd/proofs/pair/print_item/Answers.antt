@@ -1,12 +1,11 @@
-use Rattle.std.proofs.Common.{arith, ◌≤◌, ◌≡◌, ◌∙◌, ◌++◌, ◌∷◌, [], ap, sym, pos, List, ℕ, ℤ, Option, Some, None, string_bytes}
-use Rattle.std.specs.Fmt.{decimal, signed_decimal}
+use Rattle.std.proofs.Common.{arith, ◌≤◌, ◌≡◌, ◌∙◌, ◌++◌, ◌∷◌, [], ap, pos, ℕ, ℤ, Option, Some, None, string_bytes}
+use Rattle.std.specs.Fmt.{signed_decimal}
 use Rattle.std.specs.Int.{w128}
 use Rattle.std.proofs.lemmas.Int.{to_z-of_z}
 use mir.Val.{to_z, of_z}
-use Rattle.rp_base.specs.declared.ends.Side.{Side}
 use Rattle.rp_base.specs.declared.handlers.Handler.TheVariants as handlers
 use Rattle.rpyc_cmd.specs.declared.messages.Question.TheVariants as question
-use Rattle.rpyc_cmd.specs.Messages.{asks, request, arguments, root, number_in, by_value, number}
+use Rattle.rpyc_cmd.specs.Messages.{asks, request, arguments, root, number_in}
 use Rattle.rpyc_cmd.specs.Talk.{exchange, stream, CarriesFront, value_of}
 use Rattle.rpyc_cmd.proofs.Delivering.{on_err}
 use Rattle.rpyc_cmd.proofs.Sendable.{number_is_read}

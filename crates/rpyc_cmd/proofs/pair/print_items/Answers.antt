@@ -1,6 +1,5 @@
-use Rattle.std.proofs.Common.{◌≡◌, ◌∙◌, ◌≤◌, ◌+◌, ◌++◌, ◌∷◌, [], ap, sym, subst, List, ℕ, get_or, arith, string_bytes}
+use Rattle.std.proofs.Common.{◌≡◌, ◌∙◌, ◌+◌, ◌++◌, ◌∷◌, [], ap, subst, List, get_or, arith, string_bytes}
 use Rattle.std.specs.Fmt.{decimal}
-use Rattle.rp_base.specs.declared.ends.Side.{Side}
 use Rattle.rpyc_cmd.specs.declared.messages.Question.TheVariants as question
 use Rattle.rpyc_cmd.specs.declared.scripts.Binding.{Binding}
 use Rattle.rpyc_cmd.specs.Talk.{exchange, stream, items_from, Carries, CarriesFront, value_of}

@@ -1,6 +1,5 @@
-use Rattle.std.proofs.Common.{◌≡◌, ◌≤◌, ◌+◌, ◌++◌, List, ℕ, take, drop, string_bytes}
-use Rattle.rp_base.specs.declared.ends.Side.{Side}
-use Rattle.rpyc_cmd.specs.Talk.{IsIdle, Carries, stream, items_from, printed}
+use Rattle.std.proofs.Common.{◌≡◌, ◌≤◌, ◌++◌, take, string_bytes}
+use Rattle.rpyc_cmd.specs.Talk.{IsIdle, printed}
 use Rattle.rpyc_cmd.proofs.Items.{Going}
 use Rattle.rpyc_cmd.proofs.pair.print_items.Given as goal
 

@@ -1,7 +1,7 @@
-use Rattle.std.proofs.Common.{subst, sym, All, ◌≡◌, ◌∙◌, ◌++◌, ◌+◌, List, map, ℕ, ap, refl, length, arith}
+use Rattle.std.proofs.Common.{subst, sym, All, ◌≡◌, ◌∙◌, ◌++◌, ◌+◌, List, map, ap, arith}
 use Rattle.std.proofs.lemmas.List.Elements.{All-push}
 use Rattle.rpyc_cmd.specs.declared.scripts.Binding.{Binding}
-use Rattle.rpyc_cmd.specs.Scripts.{lines_of, binding_line, IsBinding, IsFirstOtherBinding}
+use Rattle.rpyc_cmd.specs.Scripts.{lines_of, binding_line, IsBinding}
 use Rattle.rpyc_cmd.proofs.Lines.{lines_more, read_binding_gives, binds_nothing}
 use Rattle.rpyc_cmd.proofs.scripts.bindings.Goals as goal
 

@@ -1,8 +1,7 @@
-use Rattle.std.proofs.Common.{◌≡◌, ◌∙◌, ◌+◌, ◌<◌, ◌≤◌, ℕ, List, ap, sym, refl, length, take, drop, get_or, subst, arith, min, Some, None, Option, is_some, IsSome, true, false, Bool, suc}
+use Rattle.std.proofs.Common.{◌≡◌, ◌∙◌, ◌+◌, ◌<◌, ℕ, List, sym, refl, length, take, drop, get_or, subst, arith, min, Some, None, Option, is_some, IsSome, false, suc}
 use Rattle.std.proofs.lemmas.List.{length-take, take_all}
 use Rattle.std.proofs.Math.Seq.{split_at}
-use Rattle.rpyc_cmd.specs.declared.scripts.Binding.{Binding}
-use Rattle.rpyc_cmd.specs.Scripts.{number_of, IsFirstUnbound}
+use Rattle.rpyc_cmd.specs.Scripts.{number_of}
 use Rattle.rpyc_cmd.proofs.scripts.first_unbound.Goals as goal
 
 missing : (o : Option ℕ) → is_some o ≡ false → o ≡ None

@@ -1,4 +1,4 @@
-use Rattle.std.proofs.Common.{arith, subst, sym, All, ◌≡◌, ◌++◌, ◌∷◌, [], length, ℕ, List, ◌≤◌, map}
+use Rattle.std.proofs.Common.{arith, subst, sym, All, ◌≡◌, ◌++◌, length, ℕ, List, ◌≤◌, map}
 use Rattle.std.proofs.lemmas.Grind.{common_steps}
 use Rattle.std.proofs.lemmas.List.Elements.{All-push}
 use Rattle.rpyc_cmd.specs.Scripts.{lines_of, question_line, IsLetter, most_lines}
