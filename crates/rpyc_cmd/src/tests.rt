@@ -1,10 +1,9 @@
 use crate::decide::run_cmd;
 use crate::status::Status;
-use rp_base::Failed;
 use std::alloc::{AllocError, Global};
 use std::process::Abort;
 use std::test::Fail;
-use wire_io::{MemFiles, MemSink, MemWire, Over, Wire, WireEnd};
+use wire_io::{MemFiles, MemSink, MemWire};
 
 const A: &[u8] = b"print(conn.namespace[\"x\"])\n";
 
@@ -19,55 +18,6 @@ struct Devices {
     out: MemSink,
     ab: MemWire,
     ba: MemWire,
-}
-
-/// A wire that carries nothing: it may begin, and each put and get is a fault.
-#[derive(Drop)]
-struct DeadWire {
-    begins: bool,
-    faults: u64,
-}
-
-impl Wire for DeadWire {
-    ghost use Rattle.std.specs.Prelude.{[]};
-
-    ghost carried = { λ w. [] };
-
-    ghost queue = { λ w. [] };
-
-    ghost space = { λ w. 1 };
-
-    ghost fault_count = { λ w. w.faults };
-
-    fn faults(&self) -> u64 {
-        self.faults
-    }
-
-    fn begin(&mut self, _over: Over) -> Result<(), Failed> {
-        if self.begins {
-            return Ok(());
-        }
-        self.faults = self.faults.saturating_add(1);
-        Err(Failed)
-    }
-
-    fn room(&self) -> usize {
-        1
-    }
-
-    fn queued(&self) -> usize {
-        0
-    }
-
-    fn put(&mut self, _piece: &[u8]) -> Result<usize, WireEnd> {
-        self.faults = self.faults.saturating_add(1);
-        Err(WireEnd::Failed)
-    }
-
-    fn get(&mut self, _alloc: Global, _max: usize) -> Result<Vec<u8>, WireEnd> {
-        self.faults = self.faults.saturating_add(1);
-        Err(WireEnd::Failed)
-    }
 }
 
 /// Files `a.py` and `b.py`, a sink and two wires that never fail.
@@ -96,44 +46,6 @@ fn run(alloc: Global, words: &[&str], devices: &mut Devices) -> Result<Status, A
         &mut devices.ab,
         &mut devices.ba,
     ))
-}
-
-/// Runs the first pair over two such wires, and compares how often each failed.
-fn check_dead(
-    rt: &impl Abort,
-    alloc: Global,
-    ab_begins: bool,
-    faults: (u64, u64),
-) -> Result<(), AllocError> {
-    let mut devices = make_devices(alloc, A, B)?;
-    let mut ab = DeadWire {
-        begins: ab_begins,
-        faults: 0,
-    };
-    let mut ba = DeadWire {
-        begins: false,
-        faults: 0,
-    };
-    let words = [
-        String::from_str(alloc, "pair")?,
-        String::from_str(alloc, "a.py")?,
-        String::from_str(alloc, "b.py")?,
-    ];
-    let status = run_cmd(
-        alloc,
-        &words,
-        &mut devices.files,
-        &mut devices.out,
-        &mut ab,
-        &mut ba,
-    );
-    assert_eq!(rt; status, Status::Device);
-    assert_eq!(rt;
-        devices.out.taken(),
-        b"B 0\nA 0\nend wire\nunits -\ntables -\n".as_slice()
-    );
-    assert_eq!(rt; (ab.faults(), ba.faults()), faults);
-    Ok(())
 }
 
 /// Runs `pair a.py b.py` on two texts, and compares the status and all that was written.
@@ -298,15 +210,5 @@ fn devices_that_fail(rt: HostRuntime) -> Result<(), Fail> {
     let ended = run(alloc, &["pair", "a.py", "b.py"], &mut full)?;
     assert_eq!(rt; ended, Status::Output);
     assert_eq!(rt; full.out.taken(), b"B 0\nA 2\n5\n".as_slice());
-    Ok(())
-}
-
-#[test]
-fn wires_that_do_not_begin(rt: HostRuntime) -> Result<(), Fail> {
-    let alloc = rt.alloc();
-    // A's wire comes first, and B's is then left alone.
-    check_dead(&rt, alloc, false, (1, 0))?;
-    // Where B's fails, nothing was put on A's.
-    check_dead(&rt, alloc, true, (0, 1))?;
     Ok(())
 }
