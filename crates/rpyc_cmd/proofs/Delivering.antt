@@ -48,6 +48,9 @@ pub on_err : {T E : Type 0} (r : Result T E) (P : Type 0) → P → OnErr r P
 on_err (Ok x) P p = tt
 on_err (Err e) P p = p
 
+pub err_gives : {T E : Type 0} (r : Result T E) (e : E) (P : Type 0) → r ≡ Err e → OnErr r P → P
+err_gives {T} {E} r e P is h = let F : Result T E → Type 0 = λ x. OnErr x P in subst F is h
+
 -- one piece more
 pub piece_more : (bytes : List ℕ) (done most n : ℕ) (start mid new : List ℕ) → done ≤ length bytes → n ≤ length (take (done + most - done) (drop done bytes)) → mid ≡ start ++ take done bytes
     → new ≡ mid ++ take n (take (done + most - done) (drop done bytes)) → (done + n ≤ length bytes) × (new ≡ start ++ take (done + n) bytes)

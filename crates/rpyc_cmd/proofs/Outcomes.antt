@@ -50,10 +50,10 @@ are_answered text_a text_b letters bindings h =
 
 -- what a run decides on is what the program decides on
 pub run_decides : (decided : Status) (words : List (List ℕ)) (old new : Outside) (s : Scripts words old.held) (letters : List ℕ) (bindings : List Binding) (text : List ℕ)
-    → AreAccepted s.text_a s.text_b letters bindings → IsDecided decided bindings letters text old.ab old.ab_faults new.ab new.ab_faults old.ba old.ba_faults new.ba new.ba_faults
+    → AreAccepted s.text_a s.text_b letters bindings → IsDecided decided bindings letters text old.ab new.ab old.ba new.ba
     → Decides decided words old new text
-run_decides status.Done words old new s letters bindings text a h = (s, letters, bindings, a, h.0, h.1)
-run_decides status.Device words old new s letters bindings text a h = (s, letters, bindings, a, h.0, h.1, h.2)
+run_decides status.Done words old new s letters bindings text a h = (s, letters, bindings, a, h.0, h.1, h.2)
+run_decides status.Device words old new s letters bindings text a h = (s, letters, bindings, a, h.0, h.1)
 run_decides status.Words words old new s letters bindings text a h = absurd h
 run_decides status.Script words old new s letters bindings text a h = absurd h
 run_decides status.File words old new s letters bindings text a h = absurd h

@@ -1,6 +1,8 @@
 -- What a run of the program makes of its words, its files and its wires, and what it writes.
 use Rattle.std.specs.Prelude.{◌≡◌, ℕ, List, [], Option, Some, None, ◌⊎◌, All, IsSome, take}
 use Rattle.wire_io.specs.Devices.{Rose, Wrote, IsPart}
+use Rattle.wire_io.specs.declared.wire.Over.{Over}
+use Rattle.wire_io.specs.declared.wire.Over.TheVariants as over
 use Rattle.rpyc_cmd.specs.declared.scripts.Binding.{Binding}
 use Rattle.rpyc_cmd.specs.declared.status.Status.{Status}
 use Rattle.rpyc_cmd.specs.declared.status.Status.TheVariants as status
@@ -23,25 +25,39 @@ abbrev pub Lacks : Held → List ℕ → Type 0
 Lacks None name = Unit {0}
 Lacks (Some held) name = held name ≡ None
 
+-- what a wire shows from outside: the bytes put so far, how it was last begun, and its faults
+pub record Seen : Type 0 where
+  pub carried : List ℕ
+  pub begun : Option Over
+  pub faults : ℕ
+
+abbrev pub seen : List ℕ → Option Over → ℕ → Seen
+seen carried begun faults = record { carried = carried; begun = begun; faults = faults }
+
 -- what the files and the wires show from outside
 pub record Outside : Type 0 where
   pub held : Held
   pub file_faults : ℕ
-  pub ab : List ℕ
-  pub ab_faults : ℕ
-  pub ba : List ℕ
-  pub ba_faults : ℕ
+  pub ab : Seen
+  pub ba : Seen
 
-abbrev pub outside : Held → ℕ → List ℕ → ℕ → List ℕ → ℕ → Outside
-outside held file_faults ab ab_faults ba ba_faults =
-    record { held = held; file_faults = file_faults; ab = ab; ab_faults = ab_faults; ba = ba; ba_faults = ba_faults }
+abbrev pub outside : Held → ℕ → Seen → Seen → Outside
+outside held file_faults ab ba = record { held = held; file_faults = file_faults; ab = ab; ba = ba }
 
 -- no run was begun: the wires were not touched
 pub record Unbegun (old new : Outside) : Type 0 where
-  pub no_requests : new.ab ≡ old.ab
-  pub no_replies : new.ba ≡ old.ba
-  pub no_ab_fault : new.ab_faults ≡ old.ab_faults
-  pub no_ba_fault : new.ba_faults ≡ old.ba_faults
+  pub same_ab : new.ab ≡ old.ab
+  pub same_ba : new.ba ≡ old.ba
+
+-- both wires were begun over memory
+abbrev pub AreBegun : Option Over → Option Over → Type 0
+AreBegun ab ba = (ab ≡ Some over.Memory) × (ba ≡ Some over.Memory)
+
+-- A wire did not begin, so nothing was carried. B's wire is begun after A's.
+abbrev pub IsUnrun : Seen → Seen → Seen → Seen → Type 0
+IsUnrun ab ab_new ba ba_new =
+    ((ab_new.begun ≡ ab.begun) ⊎ (ab_new.begun ≡ Some over.Memory)) × (ba_new.begun ≡ ba.begun)
+    × (ab_new.carried ≡ ab.carried) × (ba_new.carried ≡ ba.carried)
 
 -- the words name two files, which were read: these scripts
 pub record Scripts (words : List (List ℕ)) (held : Held) : Type 0 where
@@ -78,11 +94,24 @@ done_report bindings letters = report run_end.Done [] (printed bindings letters)
 abbrev pub cut_report : List Binding → List ℕ → ℕ → List ℕ
 cut_report bindings letters count = report run_end.Wire [] (printed bindings (take count letters)) None None
 
+-- A run that was cut short: by a wire that did not begin, or in the conversation.
+abbrev pub IsCutRun : List Binding → List ℕ → Seen → Seen → Seen → Seen → Type 0
+IsCutRun bindings letters ab ab_new ba ba_new =
+    IsUnrun ab ab_new ba ba_new ⊎ (AreBegun ab_new.begun ba_new.begun × CarriesFront (stream (talk bindings letters)) ab.carried ab_new.carried ba.carried ba_new.carried)
+
+-- the same with the report: nothing was printed where nothing ran
+abbrev pub IsReportedCut : List Binding → List ℕ → List ℕ → Seen → Seen → Seen → Seen → Type 0
+IsReportedCut bindings letters text ab ab_new ba ba_new =
+    (IsUnrun ab ab_new ba ba_new × (text ≡ cut_report bindings letters 0))
+    ⊎ (AreBegun ab_new.begun ba_new.begun × CarriesFront (stream (talk bindings letters)) ab.carried ab_new.carried ba.carried ba_new.carried
+    × ((count : ℕ) × (text ≡ cut_report bindings letters count)))
+
 -- What the program decides on before it writes: a status and a text.
 abbrev pub Decides : Status → List (List ℕ) → Outside → Outside → List ℕ → Type 0
 Decides status.Done words old new text =
     (s : Scripts words old.held) × (letters : List ℕ) × (bindings : List Binding) × AreAccepted s.text_a s.text_b letters bindings
-    × Carries (stream (talk bindings letters)) old.ab new.ab old.ba new.ba × (text ≡ done_report bindings letters)
+    × AreBegun new.ab.begun new.ba.begun × Carries (stream (talk bindings letters)) old.ab.carried new.ab.carried old.ba.carried new.ba.carried
+    × (text ≡ done_report bindings letters)
 Decides status.Words words old new text = (at : ℕ) × IsRefusedAt words at × (text ≡ words_line at) × Unbegun old new × (new.file_faults ≡ old.file_faults)
 Decides status.Script words old new text =
     (s : Scripts words old.held) × (name : List ℕ) × (line : ℕ) × IsRefusal s.name_a s.text_a s.name_b s.text_b name line × (text ≡ script_line name line) × Unbegun old new
@@ -92,17 +121,16 @@ Decides status.File words old new text =
     ⊎ ((text_a : List ℕ) × Holds old.held name_a text_a × IsFileRefusal old.held name_b old.file_faults new.file_faults text))
 Decides status.Device words old new text =
     (s : Scripts words old.held) × (letters : List ℕ) × (bindings : List Binding) × AreAccepted s.text_a s.text_b letters bindings
-    × CarriesFront (stream (talk bindings letters)) old.ab new.ab old.ba new.ba
-    × ((count : ℕ) × (text ≡ cut_report bindings letters count))
-    × (Rose old.ab_faults new.ab_faults ⊎ Rose old.ba_faults new.ba_faults)
+    × IsReportedCut bindings letters text old.ab new.ab old.ba new.ba
+    × (Rose old.ab.faults new.ab.faults ⊎ Rose old.ba.faults new.ba.faults)
 Decides status.Output words old new text = ⊥
 Decides status.NoMemory words old new text = ⊥
 
--- Memory ran out before there was a text: the wires were not touched, or carried a front of the conversation.
+-- Memory ran out before there was a text: the wires were not touched, or a run was cut short.
 abbrev pub RunsOut : List (List ℕ) → Outside → Outside → Type 0
 RunsOut words old new = Unbegun old new
     ⊎ ((s : Scripts words old.held) × (letters : List ℕ) × (bindings : List Binding) × AreAccepted s.text_a s.text_b letters bindings
-    × CarriesFront (stream (talk bindings letters)) old.ab new.ab old.ba new.ba)
+    × IsCutRun bindings letters old.ab new.ab old.ba new.ba)
 
 -- A text was written whole, or a front of it where the sink's count of faults rose.
 abbrev pub Writes : List ℕ → Option (List ℕ) → ℕ → Option (List ℕ) → ℕ → Type 0

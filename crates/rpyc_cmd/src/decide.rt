@@ -1,8 +1,8 @@
 ghost use Rattle.std.specs.Prelude.{◌≡◌, ◌≤◌, ◌⊎◌, ◌++◌, [], ℕ, List, map, IfOk, IfErr, OnOk, OnErr, IsErrOf, All, IsSome, string_bytes};
 ghost use Rattle.wire_io.specs.Devices.{Rose};
 ghost use Rattle.rpyc_cmd.specs.declared.scripts.Binding.{Binding};
-ghost use Rattle.rpyc_cmd.specs.Deciding.{IfRefused, IfNoMemory, Came, HasCause, IsDecided, Finished};
-ghost use Rattle.rpyc_cmd.specs.Outcome.{Holds, IsFileRefusal, IsRefusal, AreAccepted, Decides, RunsOut, Ends, outside};
+ghost use Rattle.rpyc_cmd.specs.Deciding.{IfRefused, IfNoMemory, CutAfter, Came, IsDecided, Finished};
+ghost use Rattle.rpyc_cmd.specs.Outcome.{Holds, IsFileRefusal, IsRefusal, AreAccepted, AreBegun, IsCutRun, Decides, RunsOut, Ends, outside, seen};
 ghost use Rattle.rpyc_cmd.specs.Report.{script_line};
 ghost use Rattle.rpyc_cmd.specs.Scripts.{AsksFor, Binds, IsFirstOtherQuestion, IsFirstOtherBinding, IsFirstUnbound, number_of};
 ghost use Rattle.rpyc_cmd.specs.Talk.{AreAnswered, PrintsFirst, Carries, CarriesFront, stream, talk, printed, IsIdle};
@@ -155,9 +155,12 @@ fn begin_and_converse<W: Wire>(
     requires answered { AreAnswered b.old.bindings.items letters.now }
     requires idle { (a.old.inbox ≡ []) × (b.old.inbox ≡ []) }
     ensures printed { OnOk result (string_bytes a.new.output ≡ string_bytes a.old.output ++ printed b.old.bindings.items letters.now) }
-    ensures some_printed { IsErrOf result Cut.Wire → PrintsFirst b.old.bindings.items letters.now (string_bytes a.old.output) (string_bytes a.new.output) }
+    ensures begun { OnOk result (AreBegun (W.begun ab.new) (W.begun ba.new)) }
     ensures carried { OnOk result (Carries (stream (talk b.old.bindings.items letters.now)) (W.carried ab.old) (W.carried ab.new) (W.carried ba.old) (W.carried ba.new)) }
-    ensures part { OnErr result (CarriesFront (stream (talk b.old.bindings.items letters.now)) (W.carried ab.old) (W.carried ab.new) (W.carried ba.old) (W.carried ba.new)) }
+    ensures cut { IsErrOf result Cut.Wire → CutAfter b.old.bindings.items letters.now (string_bytes a.old.output) (string_bytes a.new.output)
+        (seen (W.carried ab.old) (W.begun ab.old) (W.fault_count ab.old)) (seen (W.carried ab.new) (W.begun ab.new) (W.fault_count ab.new)) (seen (W.carried ba.old) (W.begun ba.old) (W.fault_count ba.old)) (seen (W.carried ba.new) (W.begun ba.new) (W.fault_count ba.new)) }
+    ensures part { OnErr result (IsCutRun b.old.bindings.items letters.now
+        (seen (W.carried ab.old) (W.begun ab.old) (W.fault_count ab.old)) (seen (W.carried ab.new) (W.begun ab.new) (W.fault_count ab.new)) (seen (W.carried ba.old) (W.begun ba.old) (W.fault_count ba.old)) (seen (W.carried ba.new) (W.begun ba.new) (W.fault_count ba.new))) }
     ensures later { (W.fault_count ab.old ≤ W.fault_count ab.new) × (W.fault_count ba.old ≤ W.fault_count ba.new) }
     ensures failed { IsErrOf result Cut.Wire → (Rose (W.fault_count ab.old) (W.fault_count ab.new)) ⊎ (Rose (W.fault_count ba.old) (W.fault_count ba.new)) }
 {
@@ -175,10 +178,11 @@ fn run_pair<W: Wire>(
     ba: &mut W,
 ) -> Result<PairEnd, NoMemory>
     requires { AreAnswered accepted.bindings.items accepted.letters.items }
-    ensures came { IfOk result (λ e. Came e.end accepted.bindings.items accepted.letters.items (string_bytes e.out_a) e.units e.tables (W.carried ab.old) (W.carried ab.new) (W.carried ba.old) (W.carried ba.new)) }
+    ensures came { IfOk result (λ e. Came e.end accepted.bindings.items accepted.letters.items (string_bytes e.out_a) e.units e.tables
+        (seen (W.carried ab.old) (W.begun ab.old) (W.fault_count ab.old)) (seen (W.carried ab.new) (W.begun ab.new) (W.fault_count ab.new)) (seen (W.carried ba.old) (W.begun ba.old) (W.fault_count ba.old)) (seen (W.carried ba.new) (W.begun ba.new) (W.fault_count ba.new))) }
     ensures silent { IfOk result (λ e. string_bytes e.out_b ≡ []) }
-    ensures cause { IfOk result (λ e. HasCause e.end (W.fault_count ab.old) (W.fault_count ab.new) (W.fault_count ba.old) (W.fault_count ba.new)) }
-    ensures part { OnErr result (CarriesFront (stream (talk accepted.bindings.items accepted.letters.items)) (W.carried ab.old) (W.carried ab.new) (W.carried ba.old) (W.carried ba.new)) }
+    ensures part { OnErr result (IsCutRun accepted.bindings.items accepted.letters.items
+        (seen (W.carried ab.old) (W.begun ab.old) (W.fault_count ab.old)) (seen (W.carried ab.new) (W.begun ab.new) (W.fault_count ab.new)) (seen (W.carried ba.old) (W.begun ba.old) (W.fault_count ba.old)) (seen (W.carried ba.new) (W.begun ba.new) (W.fault_count ba.new))) }
 {
     let Accepted { letters, bindings } = accepted;
     let units = 2 * bindings.len() as u128 + 2 + 8 * letters.len() as u128;
@@ -190,24 +194,27 @@ fn run_pair<W: Wire>(
         inbox: Deframer::new(alloc),
         bindings,
     };
-    let came = begin_and_converse(alloc, &letters, &mut a, &mut b, ab, ba);
-    let SideA { inbox: _, output } = a;
-    let out_b = String::new(alloc);
-    match came {
-        Ok(()) => Ok(PairEnd {
-            end: RunEnd::Done,
-            out_a: output,
-            out_b,
-            units: Some(units),
-            tables: Some((0, 2)),
-        }),
-        Err(Cut::Wire) => Ok(PairEnd {
-            end: RunEnd::Wire,
-            out_a: output,
-            out_b,
-            units: None,
-            tables: None,
-        }),
+    match begin_and_converse(alloc, &letters, &mut a, &mut b, ab, ba) {
+        Ok(()) => {
+            let SideA { inbox: _, output } = a;
+            Ok(PairEnd {
+                end: RunEnd::Done,
+                out_a: output,
+                out_b: String::new(alloc),
+                units: Some(units),
+                tables: Some((0, 2)),
+            })
+        }
+        Err(Cut::Wire) => {
+            let SideA { inbox: _, output } = a;
+            Ok(PairEnd {
+                end: RunEnd::Wire,
+                out_a: output,
+                out_b: String::new(alloc),
+                units: None,
+                tables: None,
+            })
+        }
         Err(Cut::NoMemory) => Err(NoMemory),
     }
 }
@@ -221,8 +228,9 @@ fn decide_run<W: Wire>(
 ) -> Result<Decided, NoMemory>
     requires { AreAnswered accepted.bindings.items accepted.letters.items }
     ensures decided { IfOk result (λ d. IsDecided d.status accepted.bindings.items accepted.letters.items (string_bytes d.text)
-        (W.carried ab.old) (W.fault_count ab.old) (W.carried ab.new) (W.fault_count ab.new) (W.carried ba.old) (W.fault_count ba.old) (W.carried ba.new) (W.fault_count ba.new)) }
-    ensures part { OnErr result (CarriesFront (stream (talk accepted.bindings.items accepted.letters.items)) (W.carried ab.old) (W.carried ab.new) (W.carried ba.old) (W.carried ba.new)) }
+        (seen (W.carried ab.old) (W.begun ab.old) (W.fault_count ab.old)) (seen (W.carried ab.new) (W.begun ab.new) (W.fault_count ab.new)) (seen (W.carried ba.old) (W.begun ba.old) (W.fault_count ba.old)) (seen (W.carried ba.new) (W.begun ba.new) (W.fault_count ba.new))) }
+    ensures part { OnErr result (IsCutRun accepted.bindings.items accepted.letters.items
+        (seen (W.carried ab.old) (W.begun ab.old) (W.fault_count ab.old)) (seen (W.carried ab.new) (W.begun ab.new) (W.fault_count ab.new)) (seen (W.carried ba.old) (W.begun ba.old) (W.fault_count ba.old)) (seen (W.carried ba.new) (W.begun ba.new) (W.fault_count ba.new))) }
 {
     let e = run_pair(alloc, accepted, ab, ba)?;
     let text = pair_report(alloc, &e)?;
@@ -248,14 +256,14 @@ fn decide_pair<F: Files, W: Wire>(
     ba: &mut W,
 ) -> Result<Decided, Stop>
     ensures decided { (words : List (List ℕ)) → IsPair words name_a.now name_b.now → IfOk result (λ d. Decides d.status words
-        (outside (F.held files.old) (F.fault_count files.old) (W.carried ab.old) (W.fault_count ab.old) (W.carried ba.old) (W.fault_count ba.old))
-        (outside (F.held files.new) (F.fault_count files.new) (W.carried ab.new) (W.fault_count ab.new) (W.carried ba.new) (W.fault_count ba.new)) (string_bytes d.text)) }
+        (outside (F.held files.old) (F.fault_count files.old) (seen (W.carried ab.old) (W.begun ab.old) (W.fault_count ab.old)) (seen (W.carried ba.old) (W.begun ba.old) (W.fault_count ba.old)))
+        (outside (F.held files.new) (F.fault_count files.new) (seen (W.carried ab.new) (W.begun ab.new) (W.fault_count ab.new)) (seen (W.carried ba.new) (W.begun ba.new) (W.fault_count ba.new))) (string_bytes d.text)) }
     ensures refused { (words : List (List ℕ)) → IsPair words name_a.now name_b.now → IfErr result (λ e. IfRefused e (λ d. Decides d.status words
-        (outside (F.held files.old) (F.fault_count files.old) (W.carried ab.old) (W.fault_count ab.old) (W.carried ba.old) (W.fault_count ba.old))
-        (outside (F.held files.new) (F.fault_count files.new) (W.carried ab.new) (W.fault_count ab.new) (W.carried ba.new) (W.fault_count ba.new)) (string_bytes d.text))) }
+        (outside (F.held files.old) (F.fault_count files.old) (seen (W.carried ab.old) (W.begun ab.old) (W.fault_count ab.old)) (seen (W.carried ba.old) (W.begun ba.old) (W.fault_count ba.old)))
+        (outside (F.held files.new) (F.fault_count files.new) (seen (W.carried ab.new) (W.begun ab.new) (W.fault_count ab.new)) (seen (W.carried ba.new) (W.begun ba.new) (W.fault_count ba.new))) (string_bytes d.text))) }
     ensures cut { (words : List (List ℕ)) → IsPair words name_a.now name_b.now → IfErr result (λ e. IfNoMemory e (RunsOut words
-        (outside (F.held files.old) (F.fault_count files.old) (W.carried ab.old) (W.fault_count ab.old) (W.carried ba.old) (W.fault_count ba.old))
-        (outside (F.held files.new) (F.fault_count files.new) (W.carried ab.new) (W.fault_count ab.new) (W.carried ba.new) (W.fault_count ba.new)))) }
+        (outside (F.held files.old) (F.fault_count files.old) (seen (W.carried ab.old) (W.begun ab.old) (W.fault_count ab.old)) (seen (W.carried ba.old) (W.begun ba.old) (W.fault_count ba.old)))
+        (outside (F.held files.new) (F.fault_count files.new) (seen (W.carried ab.new) (W.begun ab.new) (W.fault_count ab.new)) (seen (W.carried ba.new) (W.begun ba.new) (W.fault_count ba.new))))) }
     ensures kept { F.held files.new ≡ F.held files.old }
 {
     let text_a = read_script(alloc, name_a, files)?;
@@ -278,11 +286,11 @@ fn decide<F: Files, W: Wire>(
     ba: &mut W,
 ) -> Result<Decided, NoMemory>
     ensures decided { IfOk result (λ d. Decides d.status (map string_bytes words.now)
-        (outside (F.held files.old) (F.fault_count files.old) (W.carried ab.old) (W.fault_count ab.old) (W.carried ba.old) (W.fault_count ba.old))
-        (outside (F.held files.new) (F.fault_count files.new) (W.carried ab.new) (W.fault_count ab.new) (W.carried ba.new) (W.fault_count ba.new)) (string_bytes d.text)) }
+        (outside (F.held files.old) (F.fault_count files.old) (seen (W.carried ab.old) (W.begun ab.old) (W.fault_count ab.old)) (seen (W.carried ba.old) (W.begun ba.old) (W.fault_count ba.old)))
+        (outside (F.held files.new) (F.fault_count files.new) (seen (W.carried ab.new) (W.begun ab.new) (W.fault_count ab.new)) (seen (W.carried ba.new) (W.begun ba.new) (W.fault_count ba.new))) (string_bytes d.text)) }
     ensures cut { OnErr result (RunsOut (map string_bytes words.now)
-        (outside (F.held files.old) (F.fault_count files.old) (W.carried ab.old) (W.fault_count ab.old) (W.carried ba.old) (W.fault_count ba.old))
-        (outside (F.held files.new) (F.fault_count files.new) (W.carried ab.new) (W.fault_count ab.new) (W.carried ba.new) (W.fault_count ba.new))) }
+        (outside (F.held files.old) (F.fault_count files.old) (seen (W.carried ab.old) (W.begun ab.old) (W.fault_count ab.old)) (seen (W.carried ba.old) (W.begun ba.old) (W.fault_count ba.old)))
+        (outside (F.held files.new) (F.fault_count files.new) (seen (W.carried ab.new) (W.begun ab.new) (W.fault_count ab.new)) (seen (W.carried ba.new) (W.begun ba.new) (W.fault_count ba.new)))) }
     ensures kept { F.held files.new ≡ F.held files.old }
 {
     match command(words) {
@@ -325,8 +333,8 @@ pub fn run_cmd<F: Files, K: Sink, W: Wire>(
     ba: &mut W,
 ) -> Status
     ensures ends { Ends result (map string_bytes words.now)
-        (outside (F.held files.old) (F.fault_count files.old) (W.carried ab.old) (W.fault_count ab.old) (W.carried ba.old) (W.fault_count ba.old))
-        (outside (F.held files.new) (F.fault_count files.new) (W.carried ab.new) (W.fault_count ab.new) (W.carried ba.new) (W.fault_count ba.new))
+        (outside (F.held files.old) (F.fault_count files.old) (seen (W.carried ab.old) (W.begun ab.old) (W.fault_count ab.old)) (seen (W.carried ba.old) (W.begun ba.old) (W.fault_count ba.old)))
+        (outside (F.held files.new) (F.fault_count files.new) (seen (W.carried ab.new) (W.begun ab.new) (W.fault_count ab.new)) (seen (W.carried ba.new) (W.begun ba.new) (W.fault_count ba.new)))
         (K.told out.old) (K.fault_count out.old) (K.told out.new) (K.fault_count out.new) }
     ensures kept { F.held files.new ≡ F.held files.old }
 {

@@ -63,6 +63,7 @@ pub fn deliver<W: Wire>(
     ensures carried { OnOk result (W.carried wire.new ≡ W.carried wire.old ++ bytes_of message.now) }
     ensures idle { OnOk result ((W.queue wire.new ≡ []) × (inbox.new ≡ [])) }
     ensures part { OnErr result (CarriesPart (bytes_of message.now) (W.carried wire.old) (W.carried wire.new)) }
+    ensures begun { W.begun wire.new ≡ W.begun wire.old }
     ensures later { W.fault_count wire.old ≤ W.fault_count wire.new }
     ensures failed { IsErrOf result Cut.Wire → Rose (W.fault_count wire.old) (W.fault_count wire.new) }
 {
@@ -96,6 +97,7 @@ fn carry<W: Wire>(
     ensures carried { OnOk result (W.carried wire.new ≡ W.carried wire.old ++ bytes.now) }
     ensures given { OnOk result ((W.queue wire.new ≡ []) × (inbox.new ≡ inbox.old ++ bytes.now)) }
     ensures part { OnErr result (CarriesPart bytes.now (W.carried wire.old) (W.carried wire.new)) }
+    ensures begun { W.begun wire.new ≡ W.begun wire.old }
     ensures later { W.fault_count wire.old ≤ W.fault_count wire.new }
     ensures failed { IsErrOf result Cut.Wire → Rose (W.fault_count wire.old) (W.fault_count wire.new) }
 {
@@ -116,6 +118,7 @@ const PIECE: usize = 65_536;
 fn drain<W: Wire>(alloc: Global, wire: &mut W, inbox: &mut Deframer) -> Result<(), Cut>
     ensures given { OnOk result ((W.queue wire.new ≡ []) × (inbox.new ≡ inbox.old ++ W.queue wire.old)) }
     ensures carried { W.carried wire.new ≡ W.carried wire.old }
+    ensures begun { W.begun wire.new ≡ W.begun wire.old }
     ensures later { W.fault_count wire.old ≤ W.fault_count wire.new }
     ensures failed { IsErrOf result Cut.Wire → Rose (W.fault_count wire.old) (W.fault_count wire.new) }
 {

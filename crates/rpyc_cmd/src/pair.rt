@@ -78,6 +78,7 @@ fn ask<W: Wire>(
     ensures idle { OnOk result (IsIdle (W.queue ab.new) (W.queue ba.new) a.new.inbox b.new.inbox) }
     ensures part { (q : Question) → request.now ≡ asks (pos seq) q → OnErr result (CarriesFront (stream (exchange b.old.bindings.items seq q)) (W.carried ab.old) (W.carried ab.new) (W.carried ba.old) (W.carried ba.new)) }
     ensures kept { (a.new.output ≡ a.old.output) × (b.new.bindings ≡ b.old.bindings) }
+    ensures begun { (W.begun ab.new ≡ W.begun ab.old) × (W.begun ba.new ≡ W.begun ba.old) }
     ensures later { (W.fault_count ab.old ≤ W.fault_count ab.new) × (W.fault_count ba.old ≤ W.fault_count ba.new) }
     ensures failed { IsErrOf result Cut.Wire → (Rose (W.fault_count ab.old) (W.fault_count ab.new)) ⊎ (Rose (W.fault_count ba.old) (W.fault_count ba.new)) }
 {
@@ -115,6 +116,7 @@ fn ask_root<W: Wire>(
     ensures part { OnErr result (CarriesFront (stream (exchange b.old.bindings.items 0 question.GetRoot)) (W.carried ab.old) (W.carried ab.new) (W.carried ba.old) (W.carried ba.new)) }
     ensures idle { OnOk result (IsIdle (W.queue ab.new) (W.queue ba.new) a.new.inbox b.new.inbox) }
     ensures kept { (a.new.output ≡ a.old.output) × (b.new.bindings ≡ b.old.bindings) }
+    ensures begun { (W.begun ab.new ≡ W.begun ab.old) × (W.begun ba.new ≡ W.begun ba.old) }
     ensures later { (W.fault_count ab.old ≤ W.fault_count ab.new) × (W.fault_count ba.old ≤ W.fault_count ba.new) }
     ensures failed { IsErrOf result Cut.Wire → (Rose (W.fault_count ab.old) (W.fault_count ab.new)) ⊎ (Rose (W.fault_count ba.old) (W.fault_count ba.new)) }
 {
@@ -139,6 +141,7 @@ fn ask_namespace<W: Wire>(
     ensures part { OnErr result (CarriesFront (stream (exchange b.old.bindings.items 1 question.GetNamespace)) (W.carried ab.old) (W.carried ab.new) (W.carried ba.old) (W.carried ba.new)) }
     ensures idle { OnOk result (IsIdle (W.queue ab.new) (W.queue ba.new) a.new.inbox b.new.inbox) }
     ensures kept { (a.new.output ≡ a.old.output) × (b.new.bindings ≡ b.old.bindings) }
+    ensures begun { (W.begun ab.new ≡ W.begun ab.old) × (W.begun ba.new ≡ W.begun ba.old) }
     ensures later { (W.fault_count ab.old ≤ W.fault_count ab.new) × (W.fault_count ba.old ≤ W.fault_count ba.new) }
     ensures failed { IsErrOf result Cut.Wire → (Rose (W.fault_count ab.old) (W.fault_count ab.new)) ⊎ (Rose (W.fault_count ba.old) (W.fault_count ba.new)) }
 {
@@ -175,6 +178,7 @@ fn print_item<W: Wire>(
     ensures part { OnErr result (CarriesFront (stream (exchange b.old.bindings.items seq (question.GetItem letter))) (W.carried ab.old) (W.carried ab.new) (W.carried ba.old) (W.carried ba.new)) }
     ensures idle { OnOk result (IsIdle (W.queue ab.new) (W.queue ba.new) a.new.inbox b.new.inbox) }
     ensures kept { b.new.bindings ≡ b.old.bindings }
+    ensures begun { (W.begun ab.new ≡ W.begun ab.old) × (W.begun ba.new ≡ W.begun ba.old) }
     ensures later { (W.fault_count ab.old ≤ W.fault_count ab.new) × (W.fault_count ba.old ≤ W.fault_count ba.new) }
     ensures failed { IsErrOf result Cut.Wire → (Rose (W.fault_count ab.old) (W.fault_count ab.new)) ⊎ (Rose (W.fault_count ba.old) (W.fault_count ba.new)) }
 {
@@ -205,6 +209,7 @@ fn print_items<W: Wire>(
     ensures part { OnErr result (CarriesFront (stream (items_from b.old.bindings.items 2 letters.now)) (W.carried ab.old) (W.carried ab.new) (W.carried ba.old) (W.carried ba.new)) }
     ensures idle { OnOk result (IsIdle (W.queue ab.new) (W.queue ba.new) a.new.inbox b.new.inbox) }
     ensures kept { b.new.bindings ≡ b.old.bindings }
+    ensures begun { (W.begun ab.new ≡ W.begun ab.old) × (W.begun ba.new ≡ W.begun ba.old) }
     ensures later { (W.fault_count ab.old ≤ W.fault_count ab.new) × (W.fault_count ba.old ≤ W.fault_count ba.new) }
     ensures failed { IsErrOf result Cut.Wire → (Rose (W.fault_count ab.old) (W.fault_count ab.new)) ⊎ (Rose (W.fault_count ba.old) (W.fault_count ba.new)) }
 {
@@ -220,6 +225,7 @@ fn close<W: Wire>(alloc: Global, seq: u64, b: &mut SideB, ab: &mut W) -> Result<
     requires idle { (W.queue ab.old ≡ []) × (b.old.inbox ≡ []) }
     ensures carried { OnOk result (W.carried ab.new ≡ W.carried ab.old ++ bytes_of (asks (pos seq) question.Close)) }
     ensures part { OnErr result (CarriesPart (bytes_of (asks (pos seq) question.Close)) (W.carried ab.old) (W.carried ab.new)) }
+    ensures begun { W.begun ab.new ≡ W.begun ab.old }
     ensures later { W.fault_count ab.old ≤ W.fault_count ab.new }
     ensures failed { IsErrOf result Cut.Wire → Rose (W.fault_count ab.old) (W.fault_count ab.new) }
 {
@@ -246,6 +252,7 @@ pub fn converse<W: Wire>(
     ensures some_printed { IsErrOf result Cut.Wire → PrintsFirst b.old.bindings.items letters.now (string_bytes a.old.output) (string_bytes a.new.output) }
     ensures carried { OnOk result (Carries (stream (talk b.old.bindings.items letters.now)) (W.carried ab.old) (W.carried ab.new) (W.carried ba.old) (W.carried ba.new)) }
     ensures part { OnErr result (CarriesFront (stream (talk b.old.bindings.items letters.now)) (W.carried ab.old) (W.carried ab.new) (W.carried ba.old) (W.carried ba.new)) }
+    ensures begun { (W.begun ab.new ≡ W.begun ab.old) × (W.begun ba.new ≡ W.begun ba.old) }
     ensures later { (W.fault_count ab.old ≤ W.fault_count ab.new) × (W.fault_count ba.old ≤ W.fault_count ba.new) }
     ensures failed { IsErrOf result Cut.Wire → (Rose (W.fault_count ab.old) (W.fault_count ab.new)) ⊎ (Rose (W.fault_count ba.old) (W.fault_count ba.new)) }
 {

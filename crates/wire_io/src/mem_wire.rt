@@ -1,4 +1,4 @@
-ghost use Rattle.std.specs.Prelude.{◌≡◌, ◌<◌, ◌≤◌, ◌-◌, ◌+◌, [], drop, length, vec_len};
+ghost use Rattle.std.specs.Prelude.{◌≡◌, ◌<◌, ◌≤◌, ◌-◌, ◌+◌, [], None, drop, length, vec_len};
 
 use crate::calls::Calls;
 use crate::ends::WireEnd;
@@ -12,6 +12,7 @@ pub struct MemWire {
     carried: Vec<u8>,
     given: usize,
     room: usize,
+    begun: Option<Over>,
     calls: Calls,
     ghost within: { given ≤ length carried.items },
     ghost fits: { length carried.items ≤ given + room },
@@ -26,12 +27,14 @@ impl MemWire {
         ensures carried { ⟦<MemWire as Wire>⟧.carried result ≡ [] }
         ensures queue { ⟦<MemWire as Wire>⟧.queue result ≡ [] }
         ensures space { ⟦<MemWire as Wire>⟧.space result ≡ room }
+        ensures begun { ⟦<MemWire as Wire>⟧.begun result ≡ None }
         ensures faults { ⟦<MemWire as Wire>⟧.fault_count result ≡ 0 }
     {
         MemWire {
             carried: Vec::new(alloc),
             given: 0,
             room,
+            begun: None,
             calls: Calls::new(failing),
         }
     }
@@ -49,6 +52,13 @@ impl MemWire {
     {
         &self.carried[self.given..]
     }
+
+    /// How the sides were last joined.
+    pub fn begun(&self) -> Option<Over>
+        ensures { ⟦<MemWire as Wire>⟧.begun self.now ≡ result }
+    {
+        self.begun
+    }
 }
 
 impl Wire for MemWire {
@@ -58,14 +68,17 @@ impl Wire for MemWire {
 
     ghost space = { λ s. s.given + s.room - length s.carried.items };
 
+    ghost begun = { λ s. s.begun };
+
     ghost fault_count = { λ s. s.calls.faults };
 
     fn faults(&self) -> u64 {
         self.calls.faults
     }
 
-    fn begin(&mut self, _over: Over) -> Result<(), Failed> {
+    fn begin(&mut self, over: Over) -> Result<(), Failed> {
         self.given = self.carried.len();
+        self.begun = Some(over);
         Ok(())
     }
 

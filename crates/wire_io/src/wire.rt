@@ -1,4 +1,5 @@
-ghost use Rattle.std.specs.Prelude.{◌≡◌, ◌<◌, ◌≤◌, ℕ, List, [], ◌++◌, length, take, IfOk, OnOk, OnErr, IsErrOf};
+ghost use Rattle.std.specs.Prelude.{◌≡◌, ◌<◌, ◌≤◌, ℕ, List, [], ◌++◌, length, take, Option, Some, IfOk, OnOk, OnErr, IsErrOf};
+ghost use Rattle.wire_io.specs.declared.wire.Over.{Over};
 ghost use Rattle.wire_io.specs.Devices.{Rose};
 
 use crate::ends::WireEnd;
@@ -13,13 +14,16 @@ pub enum Over {
 }
 
 /// A queue of bytes from one side to the other. Its meaning is all bytes that were ever put (`carried`), those of
-/// them that were not yet given (`queue`), and how many may be put at once (`space`).
+/// them that were not yet given (`queue`), how many may be put at once (`space`), and how the sides were last joined
+/// (`begun`).
 pub trait Wire {
     ghost carried: { Self → List ℕ };
 
     ghost queue: { Self → List ℕ };
 
     ghost space: { Self → ℕ };
+
+    ghost begun: { Self → Option Over };
 
     ghost fault_count: { Self → ℕ };
 
@@ -31,6 +35,8 @@ pub trait Wire {
     fn begin(&mut self, over: Over) -> Result<(), Failed>
         ensures empty { OnOk result (queue self.new ≡ []) }
         ensures kept { OnErr result (queue self.new ≡ queue self.old) }
+        ensures begun { OnOk result (begun self.new ≡ Some over) }
+        ensures unbegun { OnErr result (begun self.new ≡ begun self.old) }
         ensures same_carried { carried self.new ≡ carried self.old }
         ensures later { fault_count self.old ≤ fault_count self.new }
         ensures failed { OnErr result (Rose (fault_count self.old) (fault_count self.new)) };
@@ -52,6 +58,7 @@ pub trait Wire {
         ensures carried { IfOk result (λ n. carried self.new ≡ carried self.old ++ take n piece.now) }
         ensures queued { IfOk result (λ n. queue self.new ≡ queue self.old ++ take n piece.now) }
         ensures kept { OnErr result ((carried self.new ≡ carried self.old) × (queue self.new ≡ queue self.old)) }
+        ensures same_begun { begun self.new ≡ begun self.old }
         ensures later { fault_count self.old ≤ fault_count self.new }
         ensures failed { IsErrOf result WireEnd.Failed → Rose (fault_count self.old) (fault_count self.new) };
 
@@ -63,6 +70,7 @@ pub trait Wire {
         ensures order { IfOk result (λ v. queue self.old ≡ v.items ++ queue self.new) }
         ensures same_carried { carried self.new ≡ carried self.old }
         ensures kept { OnErr result (queue self.new ≡ queue self.old) }
+        ensures same_begun { begun self.new ≡ begun self.old }
         ensures later { fault_count self.old ≤ fault_count self.new }
         ensures failed { IsErrOf result WireEnd.Failed → Rose (fault_count self.old) (fault_count self.new) };
 }

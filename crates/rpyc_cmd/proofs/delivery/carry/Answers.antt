@@ -27,5 +27,6 @@ pieces-preserved g c =
       c.in_ok-drain.ensures.given.0,
       c.in_ok-drain.ensures.carried ∙ put.1,
       given.1,
-      omega (arith, c.pieces.invariant.4, c.put.ensures.later, c.in_ok-drain.ensures.later),
+      c.in_ok-drain.ensures.begun ∙ c.put.ensures.same_begun ∙ c.pieces.invariant.4,
+      omega (arith, c.pieces.invariant.5, c.put.ensures.later, c.in_ok-drain.ensures.later),
     )

@@ -34,6 +34,8 @@ loop-index-preserved g c =
           subst G (ap (λ v. v.items) i.3) h.printed),
       h.idle,
       h.kept ∙ i.3,
-      omega (arith, i.4, h.later.0),
-      omega (arith, i.5, h.later.1),
+      h.begun.0 ∙ i.4,
+      h.begun.1 ∙ i.5,
+      omega (arith, i.6, h.later.0),
+      omega (arith, i.7, h.later.1),
     )

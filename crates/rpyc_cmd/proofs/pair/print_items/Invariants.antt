@@ -10,4 +10,5 @@ invariant-loop-index g l =
     × (string_bytes l.a.output ≡ string_bytes l.initial.a.output ++ printed l.initial.b.bindings.items (take l.index l.letters))
     × IsIdle (g.W.Wire.queue l.ab) (g.W.Wire.queue l.ba) l.a.inbox l.b.inbox
     × (l.b.bindings ≡ l.initial.b.bindings)
+    × (g.W.Wire.begun l.ab ≡ g.W.Wire.begun l.initial.ab) × (g.W.Wire.begun l.ba ≡ g.W.Wire.begun l.initial.ba)
     × (g.W.Wire.fault_count l.initial.ab ≤ g.W.Wire.fault_count l.ab) × (g.W.Wire.fault_count l.initial.ba ≤ g.W.Wire.fault_count l.ba)
