@@ -1,10 +1,17 @@
 -- Worked examples, computed by the checker.
-use Rattle.std.proofs.Common.{◌≡◌, [], ◌∷◌, true, false, pos, negsuc, Some, None, refl}
+use Rattle.std.proofs.Common.{◌≡◌, [], ◌∷◌, true, false, pos, negsuc, refl, ℕ}
+use Rattle.std.specs.Prelude.{Ok, Err, Result}
 use Rattle.rp_base.specs.declared.plain.Plain.{Plain}
 use Rattle.rp_base.specs.declared.plain.Plain.TheVariants as plain
+use Rattle.brine_codec.specs.declared.ends.BrineKind.{BrineKind}
+use Rattle.brine_codec.specs.declared.ends.BrineKind.TheVariants as kinds
+use Rattle.brine_codec.specs.declared.ends.BrineFault.{BrineFault}
 use Rattle.brine_codec.specs.Computing.{brine_computing}
 use Rattle.brine_codec.specs.Spelling.{spelling, spellable}
-use Rattle.brine_codec.specs.Reading.{value_at}
+use Rattle.brine_codec.specs.Reading.{value_at, decoded}
+
+abbrev fault_at : ℕ → BrineKind → Result Plain BrineFault
+fault_at place what = Err (record { at = place; what = what })
 
 -- (1, 0, ("x",))
 abbrev three : Plain
@@ -18,39 +25,119 @@ pub three_spellable : spellable three ≡ true
 unfolding brine_computing
 three_spellable = refl
 
--- (1, 0, (3, (1, ()))): a message, its number, a handler, the number of an object
-pub nested_spelled : spelling (plain.Tuple (plain.Int (pos 1) ∷ plain.Int (pos 0) ∷ plain.Tuple (plain.Int (pos 3) ∷ plain.Tuple (plain.Int (pos 1) ∷ plain.Tuple [] ∷ []) ∷ []) ∷ []))
-    ≡ 0x12 ∷ 0x51 ∷ 0x50 ∷ 0x11 ∷ 0x53 ∷ 0x11 ∷ 0x51 ∷ 0x02 ∷ []
+pub three_read : decoded (0x12 ∷ 0x51 ∷ 0x50 ∷ 0x10 ∷ 0x08 ∷ 0x0a ∷ 0x78 ∷ []) ≡ Ok three
 unfolding brine_computing
-nested_spelled = refl
+three_read = refl
+
+-- each leaf: (None, True, False, NotImplemented, ..., b"", (), "")
+abbrev leaves : Plain
+leaves = plain.Tuple (plain.None ∷ plain.Bool true ∷ plain.Bool false ∷ plain.NotImpl ∷ plain.Ellipsis ∷ plain.Bytes [] ∷ plain.Tuple [] ∷ plain.Text [] ∷ [])
+
+pub leaves_spelled : spelling leaves ≡ 0x14 ∷ 8 ∷ 0 ∷ 3 ∷ 4 ∷ 5 ∷ 6 ∷ 1 ∷ 2 ∷ 8 ∷ 1 ∷ []
+unfolding brine_computing
+leaves_spelled = refl
+
+pub leaves_read : decoded (0x14 ∷ 8 ∷ 0 ∷ 3 ∷ 4 ∷ 5 ∷ 6 ∷ 1 ∷ 2 ∷ 8 ∷ 1 ∷ []) ≡ Ok leaves
+unfolding brine_computing
+leaves_read = refl
 
 -- a text of five bytes has its length in a byte
 pub hello_spelled : spelling (plain.Text (104 ∷ 101 ∷ 108 ∷ 108 ∷ 111 ∷ [])) ≡ 0x08 ∷ 0x0e ∷ 5 ∷ 104 ∷ 101 ∷ 108 ∷ 108 ∷ 111 ∷ []
 unfolding brine_computing
 hello_spelled = refl
 
-pub least_int : spelling (plain.Int (negsuc 47)) ≡ 0x20 ∷ []
+pub least_tag : spelling (plain.Int (negsuc 47)) ≡ 0x20 ∷ []
 unfolding brine_computing
-least_int = refl
+least_tag = refl
 
-pub greatest_int : spelling (plain.Int (pos 159)) ≡ 0xef ∷ []
+pub greatest_tag : spelling (plain.Int (pos 159)) ≡ 0xef ∷ []
 unfolding brine_computing
-greatest_int = refl
+greatest_tag = refl
 
-pub beyond_ints : spellable (plain.Int (negsuc 48)) ≡ false
+pub below_tags_read : decoded (0x16 ∷ 3 ∷ 0x2d ∷ 0x34 ∷ 0x39 ∷ []) ≡ Ok (plain.Int (negsuc 48))
 unfolding brine_computing
-beyond_ints = refl
+below_tags_read = refl
 
--- two levels hold the value above, and one does not
-pub read_three : value_at 2 (0x12 ∷ 0x51 ∷ 0x50 ∷ 0x10 ∷ 0x08 ∷ 0x0a ∷ 0x78 ∷ 0x50 ∷ []) ≡ Some (three, 0x50 ∷ [])
+pub above_tags_read : decoded (0x16 ∷ 3 ∷ 0x31 ∷ 0x36 ∷ 0x30 ∷ []) ≡ Ok (plain.Int (pos 160))
 unfolding brine_computing
-read_three = refl
+above_tags_read = refl
 
-pub too_deep : value_at 1 (0x12 ∷ 0x51 ∷ 0x50 ∷ 0x10 ∷ 0x08 ∷ 0x0a ∷ 0x78 ∷ []) ≡ None
+-- faults: 5 in a text, a leading 0, -0, no digits, a float, a missing item, a byte too many, nothing
+pub five_in_a_text : decoded (0x16 ∷ 1 ∷ 0x35 ∷ []) ≡ fault_at 0 kinds.B4
 unfolding brine_computing
-too_deep = refl
+five_in_a_text = refl
 
--- a text of four bytes in the longer form
-pub not_shortest : value_at 100 (0x08 ∷ 0x0e ∷ 4 ∷ 104 ∷ 101 ∷ 108 ∷ 108 ∷ []) ≡ None
+pub leading_zero : decoded (0x16 ∷ 2 ∷ 0x30 ∷ 0x35 ∷ []) ≡ fault_at 0 kinds.B5
 unfolding brine_computing
-not_shortest = refl
+leading_zero = refl
+
+pub minus_zero : decoded (0x16 ∷ 2 ∷ 0x2d ∷ 0x30 ∷ []) ≡ fault_at 0 kinds.B5
+unfolding brine_computing
+minus_zero = refl
+
+pub zero_in_a_text : decoded (0x16 ∷ 1 ∷ 0x30 ∷ []) ≡ fault_at 0 kinds.B4
+unfolding brine_computing
+zero_in_a_text = refl
+
+pub no_digits : decoded (0x16 ∷ 0 ∷ []) ≡ fault_at 0 kinds.B5
+unfolding brine_computing
+no_digits = refl
+
+pub a_float : decoded (0x18 ∷ []) ≡ fault_at 0 (kinds.B2 0x18)
+unfolding brine_computing
+a_float = refl
+
+pub unknown_inside : decoded (0x11 ∷ 0x50 ∷ 0x07 ∷ []) ≡ fault_at 2 kinds.B1
+unfolding brine_computing
+unknown_inside = refl
+
+pub missing_item : decoded (0x10 ∷ []) ≡ fault_at 1 kinds.B3
+unfolding brine_computing
+missing_item = refl
+
+pub byte_too_many : decoded (0 ∷ 0 ∷ []) ≡ fault_at 1 kinds.B9
+unfolding brine_computing
+byte_too_many = refl
+
+pub nothing : decoded [] ≡ fault_at 0 kinds.B3
+unfolding brine_computing
+nothing = refl
+
+-- a length field below its range, also where nothing follows it; in a text the place is the byte string's tag
+pub four_in_a_byte : decoded (0x08 ∷ 0x0e ∷ 4 ∷ 104 ∷ 101 ∷ 108 ∷ 108 ∷ []) ≡ fault_at 1 kinds.B4
+unfolding brine_computing
+four_in_a_byte = refl
+
+pub low_count_alone : decoded (0x14 ∷ 4 ∷ []) ≡ fault_at 0 kinds.B4
+unfolding brine_computing
+low_count_alone = refl
+
+pub low_int_length_alone : decoded (0x17 ∷ 0 ∷ 0 ∷ 0 ∷ 255 ∷ []) ≡ fault_at 0 kinds.B4
+unfolding brine_computing
+low_int_length_alone = refl
+
+pub long_field_cut : decoded (0x0f ∷ 0 ∷ 0 ∷ 1 ∷ []) ≡ fault_at 4 kinds.B3
+unfolding brine_computing
+long_field_cut = refl
+
+-- a text whose bytes are none, or are not UTF-8
+pub text_of_none : decoded (0x10 ∷ 0x08 ∷ 0 ∷ []) ≡ fault_at 1 kinds.B7
+unfolding brine_computing
+text_of_none = refl
+
+pub text_not_utf8 : decoded (0x08 ∷ 0x0a ∷ 0xff ∷ []) ≡ fault_at 0 kinds.B7
+unfolding brine_computing
+text_not_utf8 = refl
+
+pub text_cut : decoded (0x08 ∷ 0x0b ∷ 0xff ∷ []) ≡ fault_at 3 kinds.B3
+unfolding brine_computing
+text_cut = refl
+
+-- two levels hold the value above, and one does not; depth is judged before the count field
+pub two_levels : value_at 2 (0x12 ∷ 0x51 ∷ 0x50 ∷ 0x10 ∷ 0x08 ∷ 0x0a ∷ 0x78 ∷ 0x50 ∷ []) ≡ Ok (three, 0x50 ∷ [])
+unfolding brine_computing
+two_levels = refl
+
+pub one_level : value_at 1 (0x12 ∷ 0x51 ∷ 0x50 ∷ 0x14 ∷ 0 ∷ []) ≡ Err (2, kinds.B8)
+unfolding brine_computing
+one_level = refl

@@ -1,5 +1,5 @@
 -- Recursion and induction over plain values.
-use Rattle.std.proofs.Common.{◌≡◌, ℕ, ◌+◌, ◌*◌, ◌∷◌, ◌++◌, [], List, Bool, true, false, ◌&&◌, ltb, map, length, max, fold, refl, sym, ◌∙◌, ap, subst, ℤ, ◌≤◌, ◌<◌, arith}
+use Rattle.std.proofs.Common.{◌≡◌, ℕ, ◌+◌, ◌*◌, ◌^◌, ◌∷◌, ◌++◌, [], List, Bool, true, false, ◌&&◌, ltb, map, length, max, fold, refl, sym, ◌∙◌, ap, subst, ℤ, ◌≤◌, ◌<◌, arith}
 use Rattle.std.proofs.lemmas.Bool.{ltb-true}
 use Rattle.std.specs.List.{flat_map, concat, All, AllByRecursion}
 use Rattle.std.proofs.lemmas.List.Elements.{All-from_recursion}
@@ -10,7 +10,7 @@ use Rattle.rp_base.specs.declared.plain.Plain.TheViews as views
 use Rattle.rp_base.specs.declared.plain.Plain.TheFolds.{ind-Plain, map-Plain}
 use Rattle.rp_base.specs.PlainLaws.{gather_tuple, depth_tuple}
 use Rattle.rp_base.specs.PlainValues.{plain_depth}
-use Rattle.brine_codec.specs.Spelling.{spelling, spelling_step, spellable, spellable_step, all_true, tuple_tag}
+use Rattle.brine_codec.specs.Spelling.{spelling, spelling_step, spellable, spellable_step, all_true, is_size, count_spelling}
 
 concat-map : (f : Plain → List ℕ) (xs : List Plain) → concat (map f xs) ≡ flat_map f xs
 concat-map f [] = refl
@@ -20,13 +20,13 @@ length-map : (A : Type 0) (f : Plain → A) (xs : List Plain) → length (map f 
 length-map A f [] = refl
 length-map A f (x ∷ xs) = simp (length-map A f xs)
 
-pub spelling_tuple : (xs : List Plain) → spelling (plain.Tuple xs) ≡ tuple_tag (length xs) ∷ flat_map spelling xs
+pub spelling_tuple : (xs : List Plain) → spelling (plain.Tuple xs) ≡ count_spelling (length xs) ++ flat_map spelling xs
 unfolding spelling
-spelling_tuple xs = gather_tuple (List ℕ) spelling_step xs ∙ ap (λ (n : ℕ). tuple_tag n ∷ concat (map spelling xs)) (length-map (List ℕ) spelling xs) ∙ ap (λ (ys : List ℕ). tuple_tag (length xs) ∷ ys) (concat-map spelling xs)
+spelling_tuple xs = gather_tuple (List ℕ) spelling_step xs ∙ ap (λ (n : ℕ). count_spelling n ++ concat (map spelling xs)) (length-map (List ℕ) spelling xs) ∙ ap (λ (ys : List ℕ). count_spelling (length xs) ++ ys) (concat-map spelling xs)
 
-pub spellable_tuple : (xs : List Plain) → spellable (plain.Tuple xs) ≡ (ltb (length xs) 5 && all_true (map spellable xs))
+pub spellable_tuple : (xs : List Plain) → spellable (plain.Tuple xs) ≡ (is_size (length xs) && all_true (map spellable xs))
 unfolding spellable
-spellable_tuple xs = gather_tuple Bool spellable_step xs ∙ ap (λ (n : ℕ). ltb n 5 && all_true (map spellable xs)) (length-map Bool spellable xs)
+spellable_tuple xs = gather_tuple Bool spellable_step xs ∙ ap (λ (n : ℕ). is_size n && all_true (map spellable xs)) (length-map Bool spellable xs)
 
 -- what an induction over plain values asks for: each leaf, and a tuple whose items have P
 pub record Cases (P : Plain → Type 0) : Type 0 where
@@ -81,15 +81,15 @@ all_spellable [] h = tt
 all_spellable (x ∷ xs) h = let parts = both (spellable x) (all_true (map spellable xs)) h in (parts.0, all_spellable xs parts.1)
 
 -- a tuple that has a spelling
-pub tuple_parts : (v : Plain) (xs : List Plain) → v ≡ plain.Tuple xs → spellable v ≡ true → (length xs < 5) × AllByRecursion (λ v. spellable v ≡ true) xs
+pub tuple_parts : (v : Plain) (xs : List Plain) → v ≡ plain.Tuple xs → spellable v ≡ true → (length xs < 2 ^ 32) × AllByRecursion (λ v. spellable v ≡ true) xs
 tuple_parts v xs e h =
-    let parts = both (ltb (length xs) 5) (all_true (map spellable xs)) (sym (ap spellable e ∙ spellable_tuple xs) ∙ h) in
+    let parts = both (is_size (length xs)) (all_true (map spellable xs)) (sym (ap spellable e ∙ spellable_tuple xs) ∙ h) in
     (ltb-true _ _ parts.0, all_spellable xs parts.1)
 
-pub tuple_spelled : (v : Plain) (xs ys : List Plain) → v ≡ plain.Tuple xs → ys ≡ xs → tuple_tag (length ys) ∷ flat_map spelling ys ≡ spelling v
+pub tuple_spelled : (v : Plain) (xs ys : List Plain) → v ≡ plain.Tuple xs → ys ≡ xs → count_spelling (length ys) ++ flat_map spelling ys ≡ spelling v
 tuple_spelled v xs ys e same = sym (spelling_tuple ys) ∙ ap (λ (zs : List Plain). spelling (plain.Tuple zs)) same ∙ ap spelling (sym e)
 
-pub tuple_needs : (v : Plain) (xs ys : List Plain) → v ≡ plain.Tuple xs → ys ≡ xs → spellable v ≡ true → (length ys < 5) × All (λ v. spellable v ≡ true) ys
+pub tuple_needs : (v : Plain) (xs ys : List Plain) → v ≡ plain.Tuple xs → ys ≡ xs → spellable v ≡ true → (length ys < 2 ^ 32) × All (λ v. spellable v ≡ true) ys
 tuple_needs v xs ys e same h =
     let parts = tuple_parts v ys (e ∙ ap (λ (zs : List Plain). plain.Tuple zs) (sym same)) h in
     (parts.0, All-from_recursion (λ v. spellable v ≡ true) ys parts.1)

@@ -4,8 +4,8 @@ use Rattle.std.specs.Str.{is_utf8, chars}
 use lib.Utf8.{encode}
 use Rattle.rp_base.specs.Computing.{computing}
 use Rattle.brine_codec.specs.Spelling.{spelling, spellable}
-use Rattle.brine_codec.specs.Reading.{length_at, bytes_at, text_at, items_at, value_in, items_within}
+use Rattle.brine_codec.specs.Reading.{size_at, bytes_at, int_of_text, int_at, text_at, items_at, value_in, tuple_within}
 
 unfoldable pub brine_computing : ℕ
-unfolding computing spelling spellable is_utf8 chars encode length_at bytes_at text_at items_at value_in items_within
+unfolding computing spelling spellable is_utf8 chars encode size_at bytes_at int_of_text int_at text_at items_at value_in tuple_within
 brine_computing = 0

@@ -11,8 +11,8 @@ put_tuple-returns-in_err-put_value-clause-err t c =
 
 pub put_value-put_tuple-requires : goal.put_value-put_tuple-requires
 put_value-put_tuple-requires t c =
-    let less = tuple_falls c.args.v.now c.in-Tuple.items c.as_slice.result.now c.in-Tuple.is c.as_slice.ensures in
-    let needs = tuple_needs c.args.v.now c.in-Tuple.items c.as_slice.result.now c.in-Tuple.is c.as_slice.ensures c.requires in
+    let less = tuple_falls c.args.v.now c.in-Tuple.items c.as_slice-in-Tuple.result.now c.in-Tuple.is c.as_slice-in-Tuple.ensures in
+    let needs = tuple_needs c.args.v.now c.in-Tuple.items c.as_slice-in-Tuple.result.now c.in-Tuple.is c.as_slice-in-Tuple.ensures c.requires in
     (omega (arith, less), (needs.0, needs.1))
 
 pub put_tuple-put_value-requires : goal.put_tuple-put_value-requires
@@ -23,4 +23,4 @@ put_tuple-put_value-requires t c =
 pub put_value-returns-in-Tuple-clause-ok : goal.put_value-returns-in-Tuple-clause-ok
 put_value-returns-in-Tuple-clause-ok t c =
     IfOk-equal c.put_tuple.result _ _ _ c.put_tuple.ensures.ok
-    (ap (λ (x : List ℕ). c.args.out.now.items ++ x) (tuple_spelled c.args.v.now c.in-Tuple.items c.as_slice.result.now c.in-Tuple.is c.as_slice.ensures))
+    (ap (λ (x : List ℕ). c.args.out.now.items ++ x) (tuple_spelled c.args.v.now c.in-Tuple.items c.as_slice-in-Tuple.result.now c.in-Tuple.is c.as_slice-in-Tuple.ensures))
