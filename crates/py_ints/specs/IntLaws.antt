@@ -39,10 +39,10 @@ joined : (b c : Bool) → b ≡ true → c ≡ true → b && c ≡ true
 joined b c e h = rw (e, h)
 
 -- a digit is no sign
-first_digit : (b : ℕ) (bs : List ℕ) → all_ascii_digits (b ∷ bs) ≡ true → (48 ≤ b) × (b ≤ 57)
+pub first_digit : (b : ℕ) (bs : List ℕ) → all_ascii_digits (b ∷ bs) ≡ true → (48 ≤ b) × (b ≤ 57)
 first_digit b bs h = (tells_all_ascii_digits.parts b bs h).0
 
-natural_of_digits : (ds : List ℕ) → 0 < length ds → all_ascii_digits ds ≡ true → natural_value ds ≡ Some (natural ds)
+pub natural_of_digits : (ds : List ℕ) → 0 < length ds → all_ascii_digits ds ≡ true → natural_value ds ≡ Some (natural ds)
 natural_of_digits [] some h = absurd (omega arith)
 natural_of_digits (b ∷ bs) some h = rw h refl
 
@@ -56,7 +56,7 @@ int_of_digits (b ∷ bs) some h =
 
 -- ---- the text of a number is digits, which spell it
 
-decimal_digits : (n : ℕ) → n < 10 ^ 64 → all_ascii_digits (decimal n) ≡ true
+pub decimal_digits : (n : ℕ) → n < 10 ^ 64 → all_ascii_digits (decimal n) ≡ true
 decimal_digits n small = own.from (decimal n) (decimal_is_IsNumeral_wide n small).0.1
 
 decimal_some : (n : ℕ) → n < 10 ^ 64 → 0 < length (decimal n)
@@ -97,7 +97,7 @@ positive_text (b ∷ bs) more h = let no_zero : eqb b 48 ≡ false = ne_eqb b 48
 positive_decimal : (n : ℕ) → 0 < n → n < 10 ^ 64 → is_positive_text (decimal n) ≡ true
 positive_decimal n some small = positive_text (decimal n) (first_decimal n some small) (decimal_digits n small)
 
-positive_shortest : (ds : List ℕ) → is_positive_text ds ≡ true → is_shortest ds ≡ true
+pub positive_shortest : (ds : List ℕ) → is_positive_text ds ≡ true → is_shortest ds ≡ true
 positive_shortest [] h = cc
 positive_shortest (b ∷ []) h = (both _ _ h).1
 positive_shortest (b ∷ c ∷ bs) h =

@@ -1,5 +1,5 @@
 -- A line is read exactly where it is spelled so.
-use Rattle.std.proofs.Common.{◌≡◌, ℕ, ◌≤◌, ◌++◌, List, [], ◌∷◌, Option, Some, None, Bool, true, false, arith, ap, sym, ◌∙◌, refl, take, drop, codes, cond, ◌&&◌, nat_le, subst, ◌+◌, ◌<◌, ◌==◌, length, not, suc, nat_lt, position, map, ◌-◌, append_assoc, length-drop}
+use Rattle.std.proofs.Common.{◌≡◌, ℕ, ℤ, pos, ◌⊎◌, inl, inr, ◌≤◌, ◌++◌, List, [], ◌∷◌, Option, Some, None, Bool, true, false, arith, ap, sym, ◌∙◌, refl, take, drop, codes, cond, ◌&&◌, nat_le, subst, ◌+◌, ◌<◌, ◌==◌, length, not, suc, nat_lt, position, map, ◌-◌, append_assoc, length-drop}
 use Rattle.std.proofs.Math.Seq.{take-length, drop-length}
 use Rattle.std.proofs.lemmas.List.{map-append}
 use Rattle.std.specs.List.{position_or_len}
@@ -7,12 +7,12 @@ use Rattle.std.proofs.lemmas.Bool.{leb-true, le-leb, ltb-true, ltb-false}
 use Rattle.std.proofs.lemmas.List.{take-append-drop}
 use Rattle.std.proofs.lemmas.Option.{cond_some}
 use Rattle.std.proofs.lemmas.Slice.Eq.{bytes_eq-Decides}
-use Rattle.std.specs.Fmt.{decimal}
+use Rattle.std.specs.Fmt.{signed_decimal}
 use Rattle.std.specs.Int.{is_in_range}
 use Rattle.std.specs.Str.{bytes_eq}
-use Rattle.rpyc_cmd.proofs.Numbers.{both, short_number-decimal, short_number_reads}
+use Rattle.rpyc_cmd.proofs.Numbers.{both, number_text_of, number_text_reads}
 use Rattle.rpyc_cmd.specs.declared.scripts.Binding.{Binding}
-use Rattle.rpyc_cmd.specs.Scripts.{IsLetter, IsBinding, question_line, binding_line, quoted_letter, read_letter, read_binding, bound, short_number, lines_of, onto_first}
+use Rattle.rpyc_cmd.specs.Scripts.{IsLetter, IsNumber, IsBinding, question_line, binding_line, quoted_letter, read_letter, read_binding, bound, number_text, lines_of, onto_first, bytes_in}
 
 is_letter : (c : ℕ) → is_in_range 97 122 c ≡ true → IsLetter c
 is_letter c h = let parts = both (nat_le 97 c) (nat_le c 122) h in (leb-true 97 c parts.0, leb-true c 122 parts.1)
@@ -43,7 +43,7 @@ read_letter_gives line letter h =
 pub read_letter-question_line : (letter : ℕ) → IsLetter letter → read_letter (question_line letter) ≡ Some letter
 read_letter-question_line letter h = ap (λ t. cond (t && true) (Some letter) None) (letter_is letter h)
 
-bound_gives : (letter : ℕ) (o : Option ℕ) (b : Binding) → bound letter o ≡ Some b → (letter ≡ b.letter) × (o ≡ Some b.number)
+bound_gives : (letter : ℕ) (o : Option ℤ) (b : Binding) → bound letter o ≡ Some b → (letter ≡ b.letter) × (o ≡ Some b.number)
 bound_gives letter None b h = cc
 bound_gives letter (Some n) b h =
     let made : Binding = record { letter = letter; number = n } in
@@ -56,15 +56,18 @@ read_binding_gives (p ∷ []) b h = cc
 read_binding_gives (p ∷ q ∷ []) b h = cc
 read_binding_gives (p ∷ q ∷ r ∷ []) b h = cc
 read_binding_gives (p ∷ q ∷ r ∷ s ∷ digits) b h =
-    let parts = cond_gives (is_in_range 97 122 p && bytes_eq (q ∷ r ∷ s ∷ []) (codes " = ")) (bound p (short_number digits)) b h in
+    let parts = cond_gives (is_in_range 97 122 p && bytes_eq (q ∷ r ∷ s ∷ []) (codes " = ")) (bound p (number_text digits)) b h in
     let tests = both (is_in_range 97 122 p) (bytes_eq (q ∷ r ∷ s ∷ []) (codes " = ")) parts.0 in
     let middle : (q ∷ r ∷ s ∷ []) ≡ codes " = " = (bytes_eq-Decides (q ∷ r ∷ s ∷ []) (codes " = ")).0 tests.1 in
-    let made = bound_gives p (short_number digits) b parts.1 in
-    let number = short_number_reads digits b.number made.1 in
+    let made = bound_gives p (number_text digits) b parts.1 in
+    let number = number_text_reads digits b.number made.1 in
     ((subst IsLetter made.0 (is_letter p tests.0), number.0), ap (λ m. m ∷ q ∷ r ∷ s ∷ digits) made.0 ∙ ap (λ ms. b.letter ∷ ms ++ digits) middle ∙ ap (λ ms. b.letter ∷ codes " = " ++ ms) number.1)
 
+number_again : (z : ℤ) → IsNumber z → number_text (signed_decimal z) ≡ Some z
+number_again z h = ap (λ y. number_text (signed_decimal y)) h.1 ∙ number_text_of h.0 h.2 ∙ ap Some (sym h.1)
+
 pub read_binding-binding_line : (b : Binding) → IsBinding b → read_binding (binding_line b) ≡ Some b
-read_binding-binding_line b h = ap (λ t. cond (t && true) (bound b.letter (short_number (decimal b.number))) None) (letter_is b.letter h.0) ∙ ap (bound b.letter) (short_number-decimal b.number h.1)
+read_binding-binding_line b h = ap (λ t. cond (t && true) (bound b.letter (number_text (signed_decimal b.number))) None) (letter_is b.letter h.0) ∙ ap (bound b.letter) (number_again b.number h.1)
 
 abbrev pub is_feed : ℕ → Bool
 is_feed c = c == 10
@@ -125,3 +128,20 @@ lines_more f all rest others line xs x h g e =
 -- a line of which nothing is read binds nothing
 pub binds_nothing : (line : List ℕ) → None ≡ read_binding line → (b : Binding) → IsBinding b → line ≡ binding_line b → ⊥
 binds_nothing line h b fits e = let read : read_binding line ≡ Some b = ap read_binding e ∙ read_binding-binding_line b fits in cc
+
+-- a line of which nothing is read asks for nothing
+pub asks_nothing : (line : List ℕ) → None ≡ read_letter line → (letter : ℕ) → IsLetter letter → line ≡ question_line letter → ⊥
+asks_nothing line h letter fits e = let read : read_letter line ≡ Some letter = ap read_letter e ∙ read_letter-question_line letter fits in cc
+
+-- the bytes of lines, with one line more
+bytes_push : (lines : List (List ℕ)) (line : List ℕ) → bytes_in (lines ++ line ∷ []) ≡ bytes_in lines + (length line + 1)
+bytes_push [] line = omega arith
+bytes_push (l ∷ lines) line = omega (arith, bytes_push lines line)
+
+pub bytes_more : {X : Type 0} (f : X → List ℕ) (xs : List X) (x : X) → bytes_in (map f (xs ++ x ∷ [])) ≡ bytes_in (map f xs) + (length (f x) + 1)
+bytes_more f xs x = ap bytes_in (map-append f xs (x ∷ [])) ∙ bytes_push (map f xs) (f x)
+
+-- how far the lines so far reach, where a line feed ended each
+pub reaches : (text rest others line bytes more : ℕ) → (0 < rest → bytes + rest ≡ text) → 0 < rest → (rest ≡ line + 1 + others) ⊎ ((others ≡ 0) × (rest ≡ line)) → more ≡ bytes + (line + 1) → 0 < others → more + others ≡ text
+reaches text rest others line bytes more h some (inl e) k left = omega (arith, h some)
+reaches text rest others line bytes more h some (inr e) k left = absurd (omega (arith, e.0))

@@ -1,25 +1,20 @@
--- Numbers of at most three digits.
-use Rattle.std.proofs.Common.{◌≡◌, ℕ, ◌+◌, ◌-◌, ◌*◌, ◌/◌, ◌%◌, ◌<◌, ◌≤◌, ◌++◌, zero, suc, ◌⊎◌, inl, inr, List, [], ◌∷◌, Option, Some, None, Bool, true, false, arith, ap, sym, ◌∙◌, refl, nat_lt, nat_eq, ◌&&◌, not, nat_le, ◌≢◌}
-use Rattle.std.proofs.lemmas.Fmt.{decimal_digit, decimal_step}
-use Rattle.std.proofs.lemmas.Option.{cond_some}
-use Rattle.std.proofs.lemmas.Bool.{eqb-true, leb-true, ltb-true, eq-eqb}
-use Rattle.std.specs.Char.{is_ascii_digit}
-use Rattle.std.specs.Fmt.{decimal, digits}
-use Rattle.rpyc_cmd.specs.Scripts.{short_number}
+-- Numbers below a bound, and texts of numbers without a sign.
+use Rattle.std.proofs.Common.{◌≡◌, ◌≢◌, ℕ, ◌+◌, ◌^◌, ◌<◌, ◌≤◌, ℤ, zero, suc, pos, ◌⊎◌, inl, inr, List, [], ◌∷◌, Option, Some, None, Result, Ok, Err, Bool, true, false, not, ◌&&◌, eqb, nat_le, cond, option_map, arith, ap, sym, ◌∙◌, refl, subst}
+use Rattle.std.proofs.lemmas.Bool.{eqb-true, ne_eqb, leb-true, le-leb, ltb-true, lt-ltb}
+use Rattle.std.proofs.lemmas.Fmt.{decimal_digit}
+use Rattle.std.specs.Fmt.{decimal, signed_decimal}
+use Rattle.std.specs.Int.{is_in_range}
+use Rattle.std.specs.Str.{all_ascii_digits}
+use Rattle.py_ints.specs.IntLaws.{first_digit, decimal_digits, positive_shortest, read_back, shortest, written}
+use Rattle.py_ints.specs.IntTexts.{natural, natural_value, int_value, fits, within, is_shortest, is_positive_text}
+use Rattle.py_ints.specs.declared.reading.IntText.{IntText}
+use Rattle.py_ints.specs.declared.reading.IntText.TheVariants as int_text
+use Rattle.rpyc_cmd.specs.Scripts.{IsNumber, read_or_none, is_end, number_text}
 
 -- a test that holds of each number below a bound
 abbrev pub all_below : ℕ → (ℕ → Bool) → Bool
 all_below zero p = true
 all_below (suc k) p = p k && all_below k p
-
-abbrev is_read : Option ℕ → ℕ → Bool
-is_read None n = false
-is_read (Some m) n = nat_eq m n
-
--- by computing each of them
-short_numbers : all_below 160 (λ n. is_read (short_number (decimal n)) n) ≡ true
-unfolding digits
-short_numbers = refl
 
 pub both : (a b : Bool) → (a && b) ≡ true → (a ≡ true) × (b ≡ true)
 both true true h = (refl, refl)
@@ -37,66 +32,105 @@ pub from_all : (k : ℕ) (p : ℕ → Bool) → all_below k p ≡ true → (n : 
 from_all zero p h n below = absurd (omega arith)
 from_all (suc k) p h n below = let parts = both (p k) (all_below k p) h in at_either k p parts.0 n (from_all k p parts.1 n) (is_last k n below)
 
-read_is : (o : Option ℕ) (n : ℕ) → is_read o n ≡ true → o ≡ Some n
-read_is None n h = cc
-read_is (Some m) n h = ap Some (eqb-true m n h)
+same : {A : Type 0} (x y : A) → Some x ≡ Some y → x ≡ y
+same x y e = cc
 
--- each number from 0 to 159 is read from its digits
-pub short_number-decimal : (n : ℕ) → n ≤ 159 → short_number (decimal n) ≡ Some n
-short_number-decimal n h = read_is (short_number (decimal n)) n (from_all 160 (λ m. is_read (short_number (decimal m)) m) short_numbers n (omega arith))
+-- ---- what is read
 
-two : (t o : ℕ) → 1 ≤ t → t < 10 → o < 10 → decimal (10 * t + o) ≡ (48 + t) ∷ (48 + o) ∷ []
-two t o low high small =
-    let tens : (10 * t + o) / 10 ≡ t = omega arith in
-    let ones : (10 * t + o) % 10 ≡ o = omega arith in
-    decimal_step (10 * t + o) (omega arith) (omega arith) ∙ ap (λ m. decimal m ++ ((48 + (10 * t + o) % 10) ∷ [])) tens ∙ ap (λ m. decimal t ++ ((48 + m) ∷ [])) ones
-    ∙ ap (λ ds. ds ++ ((48 + o) ∷ [])) (decimal_digit t high)
+fitting : (t : Bool) (y z : ℤ) → fits y ≡ t → read_or_none (cond t (Ok y) (Err int_text.Wide)) ≡ Some z → (y ≡ z) × (fits z ≡ true)
+fitting true y z h e = let is : y ≡ z = same y z e in (is, sym (ap fits is) ∙ h)
+fitting false y z h e = cc
 
-three : (t o : ℕ) → t < 10 → o < 10 → decimal (100 + 10 * t + o) ≡ 49 ∷ (48 + t) ∷ (48 + o) ∷ []
-three t o high small =
-    let tens : (100 + 10 * t + o) / 10 ≡ 10 * 1 + t = omega arith in
-    let ones : (100 + 10 * t + o) % 10 ≡ o = omega arith in
-    decimal_step (100 + 10 * t + o) (omega arith) (omega arith) ∙ ap (λ m. decimal m ++ ((48 + (100 + 10 * t + o) % 10) ∷ [])) tens
-    ∙ ap (λ m. decimal (10 * 1 + t) ++ ((48 + m) ∷ [])) ones ∙ ap (λ ds. ds ++ ((48 + o) ∷ [])) (two 1 t (omega arith) (omega arith) high)
+read_gives : (o : Option ℤ) (z : ℤ) → read_or_none (within o) ≡ Some z → (o ≡ Some z) × (fits z ≡ true)
+read_gives None z e = cc
+read_gives (Some y) z e = let parts = fitting (fits y) y z refl e in (ap Some parts.0, parts.1)
 
-is_digit : (c : ℕ) → is_ascii_digit c ≡ true → (48 ≤ c) × (c ≤ 57)
-is_digit c h = let parts = both (nat_le 48 c) (nat_le c 57) h in (leb-true 48 c parts.0, leb-true c 57 parts.1)
+natural_gives : (t : Bool) (n : ℕ) (z : ℤ) → option_map pos (cond t (Some n) None) ≡ Some z → (t ≡ true) × (pos n ≡ z)
+natural_gives true n z e = (refl, same (pos n) z e)
+natural_gives false n z e = cc
 
-is_other : (a b : ℕ) → not (nat_eq a b) ≡ true → a ≢ b
-is_other a b h e = let same : nat_eq a b ≡ true = eq-eqb a b e in cc
+joined : (a b : Bool) → a ≡ true → b ≡ true → a && b ≡ true
+joined a b e h = rw (e, h) refl
 
-one : (c : ℕ) → 48 ≤ c → c ≤ 57 → (c ∷ []) ≡ decimal (c - 48)
-one c low high = ap (λ m. m ∷ []) (let e : c ≡ 48 + (c - 48) = omega arith in e) ∙ sym (decimal_digit (c - 48) (omega arith))
+-- digits that begin with none of `0`, `-` and `+`
+digits_read : (c : ℕ) (ds : List ℕ) (z : ℤ) → 49 ≤ c → c ≤ 57 → int_value (c ∷ ds) ≡ Some z → fits z ≡ true → IsNumber z × (c ∷ ds ≡ signed_decimal z)
+digits_read c ds z low high e f =
+    let no_minus : eqb c 45 ≡ false = ne_eqb c 45 (λ k. omega arith) in
+    let no_plus : eqb c 43 ≡ false = ne_eqb c 43 (λ k. omega arith) in
+    let no_zero : eqb c 48 ≡ false = ne_eqb c 48 (λ k. omega arith) in
+    let plain : int_value (c ∷ ds) ≡ option_map pos (natural_value (c ∷ ds)) = rw (no_minus, no_plus) refl in
+    let read = natural_gives (all_ascii_digits (c ∷ ds)) (natural (c ∷ ds)) z (sym plain ∙ e) in
+    let other : not (eqb c 48) ≡ true = ap not no_zero in
+    let positive : is_positive_text (c ∷ ds) ≡ true = joined (not (eqb c 48)) (all_ascii_digits (c ∷ ds)) other read.0 in
+    let small : fits (pos (natural (c ∷ ds))) ≡ true = ap fits read.1 ∙ f in
+    ((natural (c ∷ ds), sym read.1, ltb-true (natural (c ∷ ds)) (2 ^ 127) small), written (c ∷ ds) z (positive_shortest (c ∷ ds) positive) f e)
 
--- what is read is the digits of a number from 0 to 159
-pub short_number_reads : (ds : List ℕ) (n : ℕ) → short_number ds ≡ Some n → (n ≤ 159) × (ds ≡ decimal n)
-short_number_reads [] n h = cc
-short_number_reads (c ∷ []) n h =
-    let parts = cond_some (is_ascii_digit c) (c - 48) n h in
-    let digit = is_digit c parts.0 in
-    (omega (arith, parts.1, digit), one c digit.0 digit.1 ∙ ap decimal parts.1)
-short_number_reads (b ∷ c ∷ []) n h =
-    let parts = cond_some ((is_ascii_digit b && not (nat_eq b 48)) && is_ascii_digit c) (10 * (b - 48) + (c - 48)) n h in
-    let tests = both (is_ascii_digit b && not (nat_eq b 48)) (is_ascii_digit c) parts.0 in
-    let tens = both (is_ascii_digit b) (not (nat_eq b 48)) tests.0 in
-    let ten = is_digit b tens.0 in
-    let other = is_other b 48 tens.1 in
-    let digit = is_digit c tests.1 in
-    let spelled = two (b - 48) (c - 48) (grind arith) (omega arith) (omega arith) in
-    let b_is : 48 + (b - 48) ≡ b = omega arith in
-    let c_is : 48 + (c - 48) ≡ c = omega arith in
-    (omega (arith, parts.1), sym (ap decimal (sym parts.1) ∙ spelled ∙ ap (λ m. m ∷ (48 + (c - 48)) ∷ []) b_is ∙ ap (λ m. b ∷ m ∷ []) c_is))
-short_number_reads (a ∷ b ∷ c ∷ []) n h =
-    let parts = cond_some ((nat_eq a 49 && (is_ascii_digit b && nat_lt b 54)) && is_ascii_digit c) (100 + 10 * (b - 48) + (c - 48)) n h in
-    let tests = both (nat_eq a 49 && (is_ascii_digit b && nat_lt b 54)) (is_ascii_digit c) parts.0 in
-    let front = both (nat_eq a 49) (is_ascii_digit b && nat_lt b 54) tests.0 in
-    let tens = both (is_ascii_digit b) (nat_lt b 54) front.1 in
-    let ten = is_digit b tens.0 in
-    let small = ltb-true b 54 tens.1 in
-    let digit = is_digit c tests.1 in
-    let spelled = three (b - 48) (c - 48) (omega arith) (omega arith) in
-    let a_is : 49 ≡ a = sym (eqb-true a 49 front.0) in
-    let b_is : 48 + (b - 48) ≡ b = omega arith in
-    let c_is : 48 + (c - 48) ≡ c = omega arith in
-    (omega (arith, parts.1), sym (ap decimal (sym parts.1) ∙ spelled ∙ ap (λ m. m ∷ (48 + (b - 48)) ∷ (48 + (c - 48)) ∷ []) a_is ∙ ap (λ m. a ∷ m ∷ (48 + (c - 48)) ∷ []) b_is ∙ ap (λ m. a ∷ b ∷ m ∷ []) c_is))
-short_number_reads (a ∷ b ∷ c ∷ d ∷ ds) n h = cc
+ends : (ds : List ℕ) → is_end ds ≡ true → ds ≡ []
+ends [] h = refl
+ends (d ∷ ds) h = cc
+
+zero_read : (c : ℕ) (ds : List ℕ) (z : ℤ) → eqb c 48 && is_end ds ≡ true → Some (pos 0) ≡ Some z → IsNumber z × (c ∷ ds ≡ signed_decimal z)
+zero_read c ds z h e =
+    let tests = both (eqb c 48) (is_end ds) h in
+    let is : pos 0 ≡ z = same (pos 0) z e in
+    ((0, sym is, omega arith), ap (λ m. m ∷ ds) (eqb-true c 48 tests.0) ∙ ap (λ ms. 48 ∷ ms) (ends ds tests.1) ∙ sym (decimal_digit 0 (omega arith)) ∙ ap signed_decimal is)
+
+in_range : (low high c : ℕ) → is_in_range low high c ≡ true → (low ≤ c) × (c ≤ high)
+in_range low high c h = let parts = both (nat_le low c) (nat_le c high) h in (leb-true low c parts.0, leb-true c high parts.1)
+
+text_read : (t u : Bool) (c : ℕ) (ds : List ℕ) (z : ℤ) → eqb c 48 && is_end ds ≡ t → is_in_range 49 57 c ≡ u
+    → cond t (Some (pos 0)) (cond u (read_or_none (within (int_value (c ∷ ds)))) None) ≡ Some z → IsNumber z × (c ∷ ds ≡ signed_decimal z)
+text_read true u c ds z h k e = zero_read c ds z h e
+text_read false true c ds z h k e =
+    let range = in_range 49 57 c k in
+    let read = read_gives (int_value (c ∷ ds)) z e in
+    digits_read c ds z range.0 range.1 read.0 read.1
+text_read false false c ds z h k e = cc
+
+-- what is read is the digits of a number that fits
+pub number_text_reads : (ds : List ℕ) (z : ℤ) → number_text ds ≡ Some z → IsNumber z × (ds ≡ signed_decimal z)
+number_text_reads [] z h = cc
+number_text_reads (c ∷ ds) z h = text_read (eqb c 48 && is_end ds) (is_in_range 49 57 c) c ds z refl refl h
+
+-- ---- and every such number is read
+
+range_is : (c : ℕ) → 49 ≤ c → c ≤ 57 → is_in_range 49 57 c ≡ true
+range_is c low high = joined (nat_le 49 c) (nat_le c 57) (le-leb 49 c low) (le-leb c 57 high)
+
+unended : (t : Bool) → t && false ≡ false
+unended true = refl
+unended false = refl
+
+read_as : (c : ℕ) (ds : List ℕ) (z : ℤ) → eqb c 48 && is_end ds ≡ false → 49 ≤ c → c ≤ 57 → int_value (c ∷ ds) ≡ Some z → fits z ≡ true → number_text (c ∷ ds) ≡ Some z
+read_as c ds z h low high e f = rw (h, range_is c low high, e, f) refl
+
+one_digit : (t : Bool) (c : ℕ) (z : ℤ) → eqb c 48 ≡ t → 48 ≤ c → c ≤ 57 → int_value (c ∷ []) ≡ Some z → fits z ≡ true → number_text (c ∷ []) ≡ Some z
+one_digit true c z h low high e f =
+    let is : c ≡ 48 = eqb-true c 48 h in
+    let F : ℕ → Type 0 = λ m. int_value (m ∷ []) ≡ Some z → number_text (m ∷ []) ≡ Some z in
+    subst F (sym is) (λ k. k) e
+one_digit false c z h low high e f =
+    let other : c ≢ 48 = λ k. absurd_eq c k h in
+    read_as c [] z (ap (λ t. t && true) h) (omega (arith, other)) high e f
+  where
+    absurd_eq : (c : ℕ) → c ≡ 48 → eqb c 48 ≡ false → ⊥
+    absurd_eq c k h = let wrong : eqb 48 48 ≡ false = subst (λ m. eqb m 48 ≡ false) k h in cc
+
+digits_again : (t : List ℕ) (z : ℤ) → is_shortest t ≡ true → all_ascii_digits t ≡ true → int_value t ≡ Some z → fits z ≡ true → number_text t ≡ Some z
+digits_again [] z s d e f = cc
+digits_again (c ∷ []) z s d e f = let range = first_digit c [] d in one_digit (eqb c 48) c z refl range.0 range.1 e f
+digits_again (c ∷ b ∷ ds) z s d e f =
+    let range = first_digit c (b ∷ ds) d in
+    let no_minus : eqb c 45 ≡ false = ne_eqb c 45 (λ k. omega (arith, range.0)) in
+    let positive : is_positive_text (c ∷ b ∷ ds) ≡ true = sym (ap (λ (t : Bool). cond t (is_positive_text (b ∷ ds)) (is_positive_text (c ∷ b ∷ ds))) no_minus) ∙ s in
+    let other : not (eqb c 48) ≡ true = (both (not (eqb c 48)) (all_ascii_digits (c ∷ b ∷ ds)) positive).0 in
+    let no_zero : c ≢ 48 = λ k. no_zero_at c k other in
+    read_as c (b ∷ ds) z (unended (eqb c 48)) (omega (arith, range.0, no_zero)) range.1 e f
+  where
+    no_zero_at : (c : ℕ) → c ≡ 48 → not (eqb c 48) ≡ true → ⊥
+    no_zero_at c k h = let wrong : not (eqb 48 48) ≡ true = subst (λ m. not (eqb m 48) ≡ true) k h in cc
+
+pub number_text_of : (n : ℕ) → n < 2 ^ 127 → number_text (signed_decimal (pos n)) ≡ Some (pos n)
+number_text_of n h =
+    let fit : fits (pos n) ≡ true = lt-ltb n (2 ^ 127) h in
+    digits_again (decimal n) (pos n) (shortest (pos n) fit) (decimal_digits n (omega arith)) (read_back (pos n) fit) fit

@@ -1,5 +1,5 @@
--- The messages of this stage, as plain values: what A asks and what B answers.
-use Rattle.std.specs.Prelude.{ℕ, ◌&&◌, ℤ, pos, List, [], ◌∷◌, codes, Option, Some, None, if◌then◌else◌, Bool, true, false}
+-- The messages of this stage: what A asks and what B answers.
+use Rattle.std.specs.Prelude.{ℕ, ◌==◌, ◌&&◌, ℤ, pos, List, [], ◌∷◌, codes, Option, Some, None, if◌then◌else◌, Bool, true, false}
 use Rattle.std.specs.Ordering.{int_eq}
 use Rattle.std.specs.Str.{bytes_eq}
 use Rattle.rp_base.specs.declared.plain.Plain.{Plain, out-Plain}
@@ -7,7 +7,8 @@ use Rattle.rp_base.specs.declared.plain.Plain.TheOpen.{Plain-F}
 use Rattle.rp_base.specs.declared.plain.Plain.TheVariants as plain
 use Rattle.rp_base.specs.declared.handlers.Handler.{Handler}
 use Rattle.rp_base.specs.declared.handlers.Handler.TheVariants as handlers
-use Rattle.rp_base.specs.Names.{handler_number}
+use Rattle.message_core.specs.declared.message.Message.{Message}
+use Rattle.message_core.specs.declared.message.Message.TheVariants as message
 use Rattle.rpyc_cmd.specs.declared.messages.Question.{Question}
 use Rattle.rpyc_cmd.specs.declared.messages.Question.TheVariants as question
 
@@ -42,14 +43,6 @@ root = identity (codes "rpyc.core.service.SlaveService") 0 2
 abbrev pub namespace : Plain
 namespace = identity (codes "builtins.dict") 0 1
 
--- a request: 1, its number, and the handler with the boxed arguments
-abbrev pub request : ℤ → Handler → Plain → Plain
-request seq handler args = plain.Tuple (number 1 ∷ plain.Int seq ∷ plain.Tuple (number (handler_number handler) ∷ args ∷ []) ∷ [])
-
--- a reply: 2, the number of its request, and the boxed value
-abbrev pub reply : ℤ → Plain → Plain
-reply seq value = plain.Tuple (number 2 ∷ plain.Int seq ∷ value ∷ [])
-
 -- what is asked of these objects
 abbrev pub arguments : Plain → Plain → Question → Plain
 arguments of_root of_namespace question.GetRoot = by_value (plain.Tuple [])
@@ -64,8 +57,9 @@ handler_of question.GetNamespace = handlers.GetAttr
 handler_of (question.GetItem letter) = handlers.CallAttr
 handler_of question.Close = handlers.Close
 
-abbrev pub asks : ℤ → Question → Plain
-asks seq q = request seq (handler_of q) (arguments root namespace q)
+-- the request of this number that asks a question
+abbrev pub asks : ℕ → Question → Message
+asks seq q = message.Request seq (handler_of q) (arguments root namespace q)
 
 -- What is read of a message: the items of a tuple, an int, a text, the content of a box.
 abbrev pub items_in : Plain-F Plain → Option (List Plain)
@@ -155,35 +149,27 @@ abbrev pub item_question : Option Plain → Option Question
 item_question (Some p) = item_among (items_of p)
 item_question None = None
 
--- by the handler
-abbrev pub question_in : Option (List Plain) → Option Question
-question_in (Some (handler ∷ args ∷ [])) =
-    if is_int (int_of handler) 3 && is_empty (content_of 1 args) then Some question.GetRoot
-    else if is_int (int_of handler) 2 && is_empty (content_of 1 args) then Some question.Close
-    else if is_int (int_of handler) 4 then namespace_question (content_of 2 args)
-    else if is_int (int_of handler) 8 then item_question (content_of 2 args)
-    else None
-question_in _ = None
+-- the question of a request, by its handler and arguments
+abbrev pub question_in : Handler → Plain → Option Question
+question_in handlers.GetRoot args = if is_empty (content_of 1 args) then Some question.GetRoot else None
+question_in handlers.Close args = if is_empty (content_of 1 args) then Some question.Close else None
+question_in handlers.GetAttr args = namespace_question (content_of 2 args)
+question_in handlers.CallAttr args = item_question (content_of 2 args)
+question_in _ args = None
 
-abbrev pub numbered : Option ℤ → Option Question → Option (ℤ × Question)
-numbered (Some seq) (Some q) = Some (seq, q)
-numbered _ _ = None
-
-abbrev pub question_among : Option (List Plain) → Option (ℤ × Question)
-question_among (Some (kind ∷ seq ∷ content ∷ [])) = if is_int (int_of kind) 1 then numbered (int_of seq) (question_in (items_of content)) else None
-question_among _ = None
+abbrev pub numbered : ℕ → Option Question → Option (ℕ × Question)
+numbered seq (Some q) = Some (seq, q)
+numbered seq None = None
 
 -- the number and the question of a request
-abbrev pub question_of : Plain → Option (ℤ × Question)
-question_of p = question_among (items_of p)
+abbrev pub question_of : Message → Option (ℕ × Question)
+question_of (message.Request seq handler args) = numbered seq (question_in handler args)
+question_of _ = None
 
 -- the boxed value of the reply to the request of this number
-abbrev pub value_among : ℕ → Option (List Plain) → Option Plain
-value_among seq (Some (kind ∷ number ∷ value ∷ [])) = if is_int (int_of kind) 2 && is_int (int_of number) seq then Some value else None
-value_among seq _ = None
-
-abbrev pub reply_value_of : ℕ → Plain → Option Plain
-reply_value_of seq p = value_among seq (items_of p)
+abbrev pub reply_value_of : ℕ → Message → Option Plain
+reply_value_of seq (message.Reply number value) = if number == seq then Some value else None
+reply_value_of seq _ = None
 
 abbrev pub object_in : Plain → Option Plain
 object_in p = content_of 4 p

@@ -1,9 +1,10 @@
 -- The scripts of this stage, as lines of text.
-use Rattle.std.specs.Char.{is_ascii_digit}
 use Rattle.std.specs.Int.{is_in_range}
 use Rattle.std.specs.Str.{bytes_eq}
-use Rattle.std.specs.Prelude.{◌≡◌, ℕ, ◌-◌, ◌*◌, ◌&&◌, not, nat_lt, ◌+◌, ◌≤◌, ◌==◌, if◌then◌else◌, List, [], ◌∷◌, ◌++◌, All, length, take, drop, map, codes, Option, Some, None, ◌⊎◌, find, reverse, option_map, IsSome}
-use Rattle.std.specs.Fmt.{decimal}
+use Rattle.std.specs.Prelude.{◌≡◌, Bool, true, false, ℕ, ℤ, pos, ◌&&◌, ◌+◌, ◌<◌, ◌≤◌, ◌^◌, ◌==◌, if◌then◌else◌, List, [], ◌∷◌, ◌++◌, All, length, take, drop, map, codes, Option, Some, None, Result, Ok, Err, ◌⊎◌, find, reverse, option_map, IsSome}
+use Rattle.std.specs.Fmt.{signed_decimal}
+use Rattle.py_ints.specs.IntTexts.{int_value, within}
+use Rattle.py_ints.specs.declared.reading.IntText.{IntText}
 use Rattle.rpyc_cmd.specs.declared.scripts.Binding.{Binding}
 
 -- the same lines, the first with this byte in front
@@ -23,51 +24,66 @@ IsLetter c = (97 ≤ c) × (c ≤ 122)
 abbrev pub question_line : ℕ → List ℕ
 question_line letter = codes "print(conn.namespace[\"" ++ letter ∷ codes "\"])"
 
--- a line of B binds a letter to a number from 0 to 159
+-- a number that is not negative and fits 128 bits
+abbrev pub IsNumber : ℤ → Type 0
+IsNumber z = (n : ℕ) × (z ≡ pos n) × (n < 2 ^ 127)
+
+-- a line of B binds a letter to such a number, which has no zero in front
 abbrev pub binding_line : Binding → List ℕ
-binding_line b = b.letter ∷ codes " = " ++ decimal b.number
+binding_line b = b.letter ∷ codes " = " ++ signed_decimal b.number
 
 abbrev pub IsBinding : Binding → Type 0
-IsBinding b = IsLetter b.letter × (b.number ≤ 159)
+IsBinding b = IsLetter b.letter × IsNumber b.number
 
--- at most 100 lines of A
-abbrev pub most_lines : ℕ
-most_lines = 100
+-- a text of at most 1 MiB is read
+abbrev pub longest_text : ℕ
+longest_text = 1048576
+
+-- the bytes of lines, each with its line feed
+abbrev pub bytes_in : List (List ℕ) → ℕ
+bytes_in [] = 0
+bytes_in (line ∷ lines) = length line + 1 + bytes_in lines
+
+-- behind these lines, the first byte past the longest text stands in this one
+abbrev pub IsPast : List ℕ → List (List ℕ) → List ℕ → Type 0
+IsPast text before line = (longest_text < length text) × (longest_text ≤ bytes_in before + length line)
 
 -- the text of A's script that asks for these letters in turn
 pub record AsksFor (text : List ℕ) (letters : List ℕ) : Type 0 where
   pub spelled : lines_of text ≡ map question_line letters
   pub lower_case : All IsLetter letters
-  pub few : length letters ≤ most_lines
+  pub short : length text ≤ longest_text
 
 -- the text of B's script that binds these in turn
 pub record Binds (text : List ℕ) (bindings : List Binding) : Type 0 where
   pub spelled : lines_of text ≡ map binding_line bindings
   pub in_range : All IsBinding bindings
+  pub short : length text ≤ longest_text
 
--- the lines of A before this one ask for letters, and it doesn't, or is one too many
+-- the lines of A before this one ask for letters, and it doesn't, or the text is too long in it
 pub record IsFirstOtherQuestion (text : List ℕ) (line : ℕ) : Type 0 where
   pub before : List ℕ
   pub other : List ℕ
   pub after : List (List ℕ)
   pub lines : lines_of text ≡ map question_line before ++ other ∷ after
   pub lower_case : All IsLetter before
-  pub few : length before ≤ most_lines
+  pub short : bytes_in (map question_line before) ≤ longest_text
   pub place : line ≡ length before + 1
-  pub refused : (length before ≡ most_lines) ⊎ ((letter : ℕ) → IsLetter letter → other ≡ question_line letter → ⊥)
+  pub refused : IsPast text (map question_line before) other ⊎ ((letter : ℕ) → IsLetter letter → other ≡ question_line letter → ⊥)
 
--- the lines of B before this one bind letters, and it doesn't
+-- the lines of B before this one bind letters, and it doesn't, or the text is too long in it
 pub record IsFirstOtherBinding (text : List ℕ) (line : ℕ) : Type 0 where
   pub before : List Binding
   pub other : List ℕ
   pub after : List (List ℕ)
   pub lines : lines_of text ≡ map binding_line before ++ other ∷ after
   pub in_range : All IsBinding before
+  pub short : bytes_in (map binding_line before) ≤ longest_text
   pub place : line ≡ length before + 1
-  pub refused : (b : Binding) → IsBinding b → other ≡ binding_line b → ⊥
+  pub refused : IsPast text (map binding_line before) other ⊎ ((b : Binding) → IsBinding b → other ≡ binding_line b → ⊥)
 
 -- the number that the last line of B with this letter gives
-abbrev pub number_of : List Binding → ℕ → Option ℕ
+abbrev pub number_of : List Binding → ℕ → Option ℤ
 number_of bindings letter = option_map (λ b. b.number) (find (λ b. b.letter == letter) (reverse bindings))
 
 -- the letters before this line's are bound, and this one is not
@@ -80,12 +96,21 @@ pub record IsFirstUnbound (bindings : List Binding) (letters : List ℕ) (line :
   pub place : line ≡ length before + 1
   pub unbound : number_of bindings letter ≡ None
 
--- The number from 0 to 159 that the digits spell without a leading zero, by how many they are.
-abbrev pub short_number : List ℕ → Option ℕ
-short_number (c ∷ []) = if is_ascii_digit c then Some (c - 48) else None
-short_number (b ∷ c ∷ []) = if (is_ascii_digit b && not (b == 48)) && is_ascii_digit c then Some (10 * (b - 48) + (c - 48)) else None
-short_number (a ∷ b ∷ c ∷ []) = if ((a == 49) && (is_ascii_digit b && nat_lt b 54)) && is_ascii_digit c then Some (100 + 10 * (b - 48) + (c - 48)) else None
-short_number _ = None
+-- The number that the digits spell without a leading zero.
+abbrev pub read_or_none : Result ℤ IntText → Option ℤ
+read_or_none (Ok z) = Some z
+read_or_none (Err e) = None
+
+abbrev pub is_end : List ℕ → Bool
+is_end [] = true
+is_end (c ∷ rest) = false
+
+abbrev pub number_text : List ℕ → Option ℤ
+number_text [] = None
+number_text (c ∷ digits) =
+    if (c == 48) && is_end digits then Some (pos 0)
+    else if is_in_range 49 57 c then read_or_none (within (int_value (c ∷ digits)))
+    else None
 
 -- The letter that a line asks for, and what a line binds, as they are read.
 abbrev pub quoted_letter : List ℕ → Option ℕ
@@ -95,10 +120,10 @@ quoted_letter (c ∷ rest) = if is_in_range 97 122 c && bytes_eq rest (codes "\"
 abbrev pub read_letter : List ℕ → Option ℕ
 read_letter line = if bytes_eq (take 22 line) (codes "print(conn.namespace[\"") then quoted_letter (drop 22 line) else None
 
-abbrev pub bound : ℕ → Option ℕ → Option Binding
+abbrev pub bound : ℕ → Option ℤ → Option Binding
 bound letter None = None
 bound letter (Some n) = Some (record { letter = letter; number = n })
 
 abbrev pub read_binding : List ℕ → Option Binding
-read_binding (a ∷ b ∷ c ∷ d ∷ digits) = if is_in_range 97 122 a && bytes_eq (b ∷ c ∷ d ∷ []) (codes " = ") then bound a (short_number digits) else None
+read_binding (a ∷ b ∷ c ∷ d ∷ digits) = if is_in_range 97 122 a && bytes_eq (b ∷ c ∷ d ∷ []) (codes " = ") then bound a (number_text digits) else None
 read_binding _ = None

@@ -1,18 +1,18 @@
-ghost use Rattle.std.specs.Prelude.{◌≡◌, ◌==◌, ◌+◌, ◌<◌, ◌≤◌, ℕ, List, [], ◌∷◌, ◌++◌, length, map, IfOk, MatchOption, Option, All, codes, IsErrOf, IfErr, IsSome, IfNone, position};
-ghost use Rattle.std.specs.Fmt.{decimal};
-ghost use Rattle.rpyc_cmd.specs.Scripts.{IsLetter, question_line, binding_line, IsBinding, lines_of, AsksFor, Binds, IsFirstOtherQuestion, IsFirstOtherBinding, number_of, IsFirstUnbound, short_number, quoted_letter, read_letter, read_binding};
+ghost use Rattle.std.specs.Prelude.{◌≡◌, ◌==◌, ◌+◌, ◌<◌, ◌⊎◌, ℕ, ◌∷◌, length, IfOk, All, IsSome, IfNone, position, Some, Err};
+ghost use Rattle.rpyc_cmd.specs.Scripts.{AsksFor, Binds, IsFirstOtherQuestion, IsFirstOtherBinding, lines_of, number_of, IsFirstUnbound, number_text, quoted_letter, read_letter, read_binding};
 
+use py_ints::read_int;
 use std::alloc::{AllocFailed, Global};
 
-/// A line of B: a lower-case letter, and the number from 0 to 159 that it is bound to.
+/// A line of B: a lower-case letter, and the number that it is bound to, from 0 to 2^127 - 1.
 #[derive(Clone, Copy)]
 pub struct Binding {
     pub letter: u8,
-    pub number: u8,
+    pub number: i128,
 }
 
-/// At most so many lines of A are taken.
-pub const MOST_LINES: usize = 100;
+/// A script has at most so many bytes: 1 MiB.
+pub const LONGEST_TEXT: usize = 1_048_576;
 
 /// Why a script is not taken: its first line that has a form that is not built yet, counted from 1.
 #[derive(Clone, Copy, Debug, PartialEq, Eq)]
@@ -31,7 +31,7 @@ impl<T: Drop> From<AllocFailed<T>> for ScriptEnd {
     }
 }
 
-/// The letters that A's script asks for, in order.
+/// The letters that A's script asks for, in order. Time is linear in the text.
 pub fn questions(alloc: Global, text: &[u8]) -> Result<Vec<u8>, ScriptEnd>
     ensures read { IfOk result (λ letters. AsksFor text.now letters.items) }
     ensures refused { (line : ℕ) → result ≡ Err (ScriptEnd.NotYet line) → IsFirstOtherQuestion text.now line }
@@ -40,8 +40,8 @@ pub fn questions(alloc: Global, text: &[u8]) -> Result<Vec<u8>, ScriptEnd>
     let mut rest = text;
     'lines: while !rest.is_empty() {
         let (line, others) = split_line(rest);
-        if letters.len() == MOST_LINES {
-            return Err(ScriptEnd::NotYet(MOST_LINES + 1));
+        if text.len() - others.len() > LONGEST_TEXT {
+            return Err(ScriptEnd::NotYet(letters.len() + 1));
         }
         let Some(letter) = letter_of(line) else {
             return Err(ScriptEnd::NotYet(letters.len() + 1));
@@ -52,7 +52,7 @@ pub fn questions(alloc: Global, text: &[u8]) -> Result<Vec<u8>, ScriptEnd>
     Ok(letters)
 }
 
-/// What B's script binds, in order.
+/// What B's script binds, in order. Time is linear in the text.
 pub fn bindings(alloc: Global, text: &[u8]) -> Result<Vec<Binding>, ScriptEnd>
     ensures read { IfOk result (λ bindings. Binds text.now bindings.items) }
     ensures refused { (line : ℕ) → result ≡ Err (ScriptEnd.NotYet line) → IsFirstOtherBinding text.now line }
@@ -61,6 +61,9 @@ pub fn bindings(alloc: Global, text: &[u8]) -> Result<Vec<Binding>, ScriptEnd>
     let mut rest = text;
     'lines: while !rest.is_empty() {
         let (line, others) = split_line(rest);
+        if text.len() - others.len() > LONGEST_TEXT {
+            return Err(ScriptEnd::NotYet(bindings.len() + 1));
+        }
         let Some(binding) = binding_of(line) else {
             return Err(ScriptEnd::NotYet(bindings.len() + 1));
         };
@@ -71,7 +74,7 @@ pub fn bindings(alloc: Global, text: &[u8]) -> Result<Vec<Binding>, ScriptEnd>
 }
 
 /// The number that the last line of B with this letter gives.
-pub fn number_of(bindings: &[Binding], letter: u8) -> Option<u8>
+pub fn number_of(bindings: &[Binding], letter: u8) -> Option<i128>
     ensures { result ≡ number_of bindings.now letter }
 {
     bindings
@@ -99,6 +102,7 @@ fn split_line(text: &[u8]) -> (&[u8], &[u8])
     requires { 0 < length text.now }
     ensures lines { lines_of text.now ≡ result.0.now ∷ lines_of result.1.now }
     ensures shorter { length result.1.now < length text.now }
+    ensures sizes { (length text.now ≡ length result.0.now + 1 + length result.1.now) ⊎ ((length result.1.now ≡ 0) × (length text.now ≡ length result.0.now)) }
 {
     match line_end(text) {
         Some(end) => (&text[..end], &text[end + 1..]),
@@ -144,18 +148,13 @@ fn binding_of(line: &[u8]) -> Option<Binding>
     }
 }
 
-/// A number from 0 to 159 without a leading zero.
-fn number_in(digits: &[u8]) -> Option<u8>
-    ensures { result ≡ short_number digits.now }
+/// A number without a leading zero.
+fn number_in(digits: &[u8]) -> Option<i128>
+    ensures { result ≡ number_text digits.now }
 {
     match digits {
-        [one] if one.is_ascii_digit() => Some(*one - b'0'),
-        [ten, one] if ten.is_ascii_digit() && *ten != b'0' && one.is_ascii_digit() => Some(
-            10 * (*ten - b'0') + (*one - b'0'),
-        ),
-        [b'1', ten, one] if ten.is_ascii_digit() && *ten < b'6' && one.is_ascii_digit() => Some(
-            100 + 10 * (*ten - b'0') + (*one - b'0'),
-        ),
+        [b'0'] => Some(0),
+        [b'1'..=b'9', ..] => read_int(digits).ok(),
         _ => None,
     }
 }

@@ -1,10 +1,10 @@
-use Rattle.std.proofs.Common.{◌≡◌, ◌∙◌, ◌+◌, ◌<◌, ℕ, List, sym, refl, length, take, drop, get_or, subst, arith, min, Some, None, Option, is_some, IsSome, false, suc}
+use Rattle.std.proofs.Common.{◌≡◌, ◌∙◌, ◌+◌, ◌<◌, ℕ, ℤ, List, sym, refl, length, take, drop, get_or, subst, arith, min, Some, None, Option, is_some, IsSome, false, suc}
 use Rattle.std.proofs.lemmas.List.{length-take, take_all}
 use Rattle.std.proofs.Math.Seq.{split_at}
 use Rattle.rpyc_cmd.specs.Scripts.{number_of}
 use Rattle.rpyc_cmd.proofs.scripts.first_unbound.Goals as goal
 
-missing : (o : Option ℕ) → is_some o ≡ false → o ≡ None
+missing : (o : Option ℤ) → is_some o ≡ false → o ≡ None
 missing None h = refl
 missing (Some n) h = cc
 
