@@ -1,10 +1,13 @@
 ghost use Rattle.std.specs.Prelude.{◌≡◌, ◌≤◌, ℕ, List, [], ◌++◌, IfOk, OnOk, OnErr, IsErrOf, IsTrue};
-ghost use Rattle.rp_base.specs.declared.plain.Plain.{Plain};
+ghost use Rattle.message_core.specs.declared.message.Message.{Message};
 ghost use Rattle.wire_io.specs.Devices.{Rose};
+ghost use Rattle.brine_codec.specs.Spelling.{spelling};
+ghost use Rattle.message_core.specs.Messages.{message_value};
 ghost use Rattle.rpyc_cmd.specs.Talk.{IsSendable, CarriesPart, bytes_of};
 
-use brine_codec::{decode, encode};
-use channel_frames::{Deframer, frame};
+use brine_codec::{DecodeEnd, decode, encode};
+use channel_frames::{Deframer, FrameFault, frame};
+use message_core::{Message, MsgFault, read, spell};
 use rp_base::{Failed, NoMemory, Plain};
 use std::alloc::Global;
 use wire_io::{Wire, WireEnd};
@@ -53,10 +56,10 @@ impl From<WireEnd> for Cut {
 /// Sends a message over a wire, and gives it as it was read at the other end.
 pub fn deliver<W: Wire>(
     alloc: Global,
-    message: &Plain,
+    message: &Message,
     wire: &mut W,
     inbox: &mut Deframer,
-) -> Result<Plain, Cut>
+) -> Result<Message, Cut>
     requires sendable { IsSendable message.now }
     requires idle { (W.queue wire.old ≡ []) × (inbox.old ≡ []) }
     ensures heard { IfOk result (λ heard. heard ≡ message.now) }
@@ -73,12 +76,12 @@ pub fn deliver<W: Wire>(
 }
 
 /// The frame of a message.
-fn frame_bytes(alloc: Global, message: &Plain) -> Result<Vec<u8>, NoMemory>
+fn frame_bytes(alloc: Global, message: &Message) -> Result<Vec<u8>, NoMemory>
     requires { IsSendable message.now }
     ensures { IfOk result (λ bytes. bytes.items ≡ bytes_of message.now) }
 {
     let mut body = Vec::new(alloc);
-    encode(message, &mut body)?;
+    encode(&spell(alloc, message)?, &mut body)?;
     let mut bytes = Vec::new(alloc);
     match frame(&body, &mut bytes) {
         Ok(()) => Ok(bytes),
@@ -132,18 +135,37 @@ fn drain<W: Wire>(alloc: Global, wire: &mut W, inbox: &mut Deframer) -> Result<(
 }
 
 /// The one message that is in an inbox.
-fn next_message(alloc: Global, inbox: &mut Deframer) -> Result<Plain, NoMemory>
-    requires { (message : Plain) × IsSendable message × (inbox.old ≡ bytes_of message) }
-    ensures { (message : Plain) → IsSendable message → inbox.old ≡ bytes_of message → IfOk result (λ heard. heard ≡ message) × OnOk result (inbox.new ≡ []) }
+fn next_message(alloc: Global, inbox: &mut Deframer) -> Result<Message, NoMemory>
+    requires { (message : Message) × IsSendable message × (inbox.old ≡ bytes_of message) }
+    ensures { (message : Message) → IsSendable message → inbox.old ≡ bytes_of message → IfOk result (λ heard. heard ≡ message) × OnOk result (inbox.new ≡ []) }
 {
     match inbox.next(alloc) {
-        Ok(Some(body)) => match decode(alloc, &body) {
-            Ok(message) => Ok(message),
-            Err(brine_codec::DecodeEnd::NoMemory) => Err(NoMemory),
-            Err(brine_codec::DecodeEnd::NotBuilt) => unreachable!(),
-        },
-        Err(channel_frames::FrameFault::NoMemory) => Err(NoMemory),
-        Ok(None) => unreachable!(),
-        Err(channel_frames::FrameFault::NotBuilt) => unreachable!(),
+        Ok(Some(body)) => message_in(alloc, &body),
+        Err(FrameFault::NoMemory) => Err(NoMemory),
+        _ => unreachable!(),
+    }
+}
+
+/// The message that a frame's data are.
+fn message_in(alloc: Global, body: &[u8]) -> Result<Message, NoMemory>
+    requires { (message : Message) × IsSendable message × (body.now ≡ spelling (message_value message)) }
+    ensures { (message : Message) → IsSendable message → body.now ≡ spelling (message_value message) → IfOk result (λ heard. heard ≡ message) }
+{
+    match decode(alloc, body) {
+        Ok(value) => message_of(alloc, &value),
+        Err(DecodeEnd::NoMemory) => Err(NoMemory),
+        Err(DecodeEnd::Fault(_)) => unreachable!(),
+    }
+}
+
+/// The message that a value is.
+fn message_of(alloc: Global, value: &Plain) -> Result<Message, NoMemory>
+    requires { (message : Message) × IsSendable message × (value.now ≡ message_value message) }
+    ensures { (message : Message) → IsSendable message → value.now ≡ message_value message → IfOk result (λ heard. heard ≡ message) }
+{
+    match read(alloc, value) {
+        Ok(message) => Ok(message),
+        Err(MsgFault::NoMemory) => Err(NoMemory),
+        Err(_) => unreachable!(),
     }
 }

@@ -4,8 +4,10 @@ ghost use Rattle.rp_base.specs.declared.plain.Plain.{Plain};
 ghost use Rattle.rp_base.specs.declared.plain.Plain.TheVariants as plain;
 ghost use Rattle.rp_base.specs.declared.handlers.Handler.TheVariants as handlers;
 ghost use Rattle.rpyc_cmd.specs.declared.messages.Question.TheVariants as question;
-ghost use Rattle.rpyc_cmd.specs.Messages.{items_of, int_of, text_of, is_int, is_text, content_of, is_identity_in, is_object, root, namespace, number, boxed, by_value, boxed_tuple, receivers, senders, identity, request, reply, arguments, handler_of, asks, question_of, question_in, is_empty, no_items, namespace_question, is_named, item_question, letter_in, reply_value_of, object_in, number_in};
+ghost use Rattle.rpyc_cmd.specs.Messages.{items_of, int_of, text_of, is_int, is_text, content_of, is_identity_in, is_object, root, namespace, number, boxed, by_value, boxed_tuple, receivers, senders, identity, arguments, asks, question_of, question_in, is_empty, no_items, namespace_question, is_named, item_question, letter_in, reply_value_of, object_in, number_in};
+ghost use Rattle.message_core.specs.declared.message.Message.TheVariants as messages;
 
+use message_core::Message;
 use rp_base::{Handler, NoMemory, Plain, Text};
 use sqlite_items::Items;
 use std::alloc::Global;
@@ -62,19 +64,6 @@ fn identity(alloc: Global, name: &str, class_no: u8, inst_no: u8) -> Result<Plai
     )
 }
 
-fn request(alloc: Global, seq: u64, handler: Handler, args: Plain) -> Result<Plain, NoMemory>
-    ensures { IfOk result (λ p. p ≡ request (pos seq) handler args) }
-{
-    let content = tuple(alloc, [number(handler.number()), args])?;
-    tuple(alloc, [number(1), Plain::Int(i128::from(seq)), content])
-}
-
-pub fn reply(alloc: Global, seq: i128, value: Plain) -> Result<Plain, NoMemory>
-    ensures { IfOk result (λ p. p ≡ reply seq value) }
-{
-    tuple(alloc, [number(2), Plain::Int(seq), value])
-}
-
 fn by_value(alloc: Global, value: Plain) -> Result<Plain, NoMemory>
     ensures { IfOk result (λ p. p ≡ by_value value) }
 {
@@ -107,22 +96,25 @@ fn key(alloc: Global, letter: u8) -> Result<Plain, NoMemory>
 }
 
 /// Asks for the root.
-pub fn get_root(alloc: Global, seq: u64) -> Result<Plain, NoMemory>
-    ensures { IfOk result (λ p. p ≡ request (pos seq) handlers.GetRoot (by_value (plain.Tuple []))) }
+pub fn get_root(alloc: Global, seq: u64) -> Result<Message, NoMemory>
+    ensures { IfOk result (λ m. m ≡ asks seq question.GetRoot) }
 {
-    request(alloc, seq, Handler::GetRoot, no_values(alloc)?)
+    Ok(Message::Request {
+        seq,
+        handler: Handler::GetRoot,
+        args: no_values(alloc)?,
+    })
 }
 
 /// Asks for the attribute `namespace` of the root, of this identity.
-pub fn get_namespace(alloc: Global, seq: u64, root: &Plain) -> Result<Plain, NoMemory>
-    ensures { IfOk result (λ p. p ≡ request (pos seq) handlers.GetAttr (arguments root.now namespace question.GetNamespace)) }
+pub fn get_namespace(alloc: Global, seq: u64, root: &Plain) -> Result<Message, NoMemory>
+    ensures { IfOk result (λ m. m ≡ messages.Request seq handlers.GetAttr (arguments root.now namespace question.GetNamespace)) }
 {
-    request(
-        alloc,
+    Ok(Message::Request {
         seq,
-        Handler::GetAttr,
-        attribute(alloc, root, "namespace")?,
-    )
+        handler: Handler::GetAttr,
+        args: attribute(alloc, root, "namespace")?,
+    })
 }
 
 fn attribute(alloc: Global, object: &Plain, attribute: &str) -> Result<Plain, NoMemory>
@@ -133,16 +125,20 @@ fn attribute(alloc: Global, object: &Plain, attribute: &str) -> Result<Plain, No
 }
 
 /// Asks the namespace of this identity for the item of a letter.
-pub fn get_item(alloc: Global, seq: u64, namespace: &Plain, letter: u8) -> Result<Plain, NoMemory>
+pub fn get_item(
+    alloc: Global,
+    seq: u64,
+    namespace: &Plain,
+    letter: u8,
+) -> Result<Message, NoMemory>
     requires { letter < 128 }
-    ensures { IfOk result (λ p. p ≡ request (pos seq) handlers.CallAttr (arguments root namespace.now (question.GetItem letter))) }
+    ensures { IfOk result (λ m. m ≡ messages.Request seq handlers.CallAttr (arguments root namespace.now (question.GetItem letter))) }
 {
-    request(
-        alloc,
+    Ok(Message::Request {
         seq,
-        Handler::CallAttr,
-        item(alloc, namespace, letter)?,
-    )
+        handler: Handler::CallAttr,
+        args: item(alloc, namespace, letter)?,
+    })
 }
 
 fn item(alloc: Global, namespace: &Plain, letter: u8) -> Result<Plain, NoMemory>
@@ -167,10 +163,14 @@ fn letter_text(alloc: Global, letter: u8) -> Result<Plain, NoMemory>
 }
 
 /// Asks B to close.
-pub fn close(alloc: Global, seq: u64) -> Result<Plain, NoMemory>
-    ensures { IfOk result (λ p. p ≡ request (pos seq) handlers.Close (by_value (plain.Tuple []))) }
+pub fn close(alloc: Global, seq: u64) -> Result<Message, NoMemory>
+    ensures { IfOk result (λ m. m ≡ asks seq question.Close) }
 {
-    request(alloc, seq, Handler::Close, no_values(alloc)?)
+    Ok(Message::Request {
+        seq,
+        handler: Handler::Close,
+        args: no_values(alloc)?,
+    })
 }
 
 fn items(value: &Plain) -> Option<&[Plain]>
@@ -230,14 +230,11 @@ fn is_identity(value: &Plain, wanted: &str, class_no: u64, inst_no: u64) -> bool
 }
 
 /// The number and the question of a request of this stage.
-pub fn read_question(message: &Plain) -> Option<(i128, Question)>
+pub fn read_question(message: &Message) -> Option<(u64, Question)>
     ensures { result ≡ question_of message.now }
 {
-    match items(message)? {
-        [kind, seq, content] if is_int(kind, 1) => {
-            let question = question_in(content)?;
-            Some((int(seq)?, question))
-        }
+    match message {
+        Message::Request { seq, handler, args } => Some((*seq, question_in(*handler, args)?)),
         _ => None,
     }
 }
@@ -251,14 +248,14 @@ fn int(value: &Plain) -> Option<i128>
     }
 }
 
-fn question_in(content: &Plain) -> Option<Question>
-    ensures { result ≡ question_in (items_of content.now) }
+fn question_in(handler: Handler, args: &Plain) -> Option<Question>
+    ensures { result ≡ question_in handler args.now }
 {
-    match items(content)? {
-        [handler, args] if is_int(handler, 3) && is_nothing(args) => Some(Question::GetRoot),
-        [handler, args] if is_int(handler, 2) && is_nothing(args) => Some(Question::Close),
-        [handler, args] if is_int(handler, 4) => namespace_question(args),
-        [handler, args] if is_int(handler, 8) => item_question(args),
+    match handler {
+        Handler::GetRoot if is_nothing(args) => Some(Question::GetRoot),
+        Handler::Close if is_nothing(args) => Some(Question::Close),
+        Handler::GetAttr => namespace_question(args),
+        Handler::CallAttr => item_question(args),
         _ => None,
     }
 }
@@ -341,18 +338,18 @@ pub fn own_namespace(alloc: Global) -> Result<Plain, NoMemory>
 }
 
 /// A number, sent by value.
-pub fn number_by_value(alloc: Global, n: u8) -> Result<Plain, NoMemory>
-    ensures { IfOk result (λ p. p ≡ by_value (number n)) }
+pub fn number_by_value(alloc: Global, n: i128) -> Result<Plain, NoMemory>
+    ensures { IfOk result (λ p. p ≡ by_value (plain.Int n)) }
 {
-    by_value(alloc, number(n))
+    by_value(alloc, Plain::Int(n))
 }
 
 /// The boxed value of the reply to the request of this number.
-pub fn reply_value(message: &Plain, seq: u64) -> Option<&Plain>
-    ensures { option_copied result ≡ reply_value_of seq message.now }
+pub fn reply_value(message: Message, seq: u64) -> Option<Plain>
+    ensures { result ≡ reply_value_of seq message }
 {
-    match items(message)? {
-        [kind, number, value] if is_int(kind, 2) && is_int(number, seq) => Some(value),
+    match message {
+        Message::Reply { seq: number, value } if number == seq => Some(value),
         _ => None,
     }
 }

@@ -1,10 +1,11 @@
 ghost use Rattle.std.specs.Prelude.{◌≡◌, ◌≤◌, ◌<◌, ◌⊎◌, ◌++◌, ◌∷◌, [], ℕ, List, pos, IfOk, OnOk, OnErr, IsErrOf, IsSome, All, length, string_bytes};
-ghost use Rattle.std.specs.Fmt.{decimal, signed_decimal};
+ghost use Rattle.std.specs.Fmt.{signed_decimal};
+ghost use Rattle.message_core.specs.declared.message.Message.TheVariants as message;
 ghost use Rattle.rp_base.specs.declared.plain.Plain.{Plain};
 ghost use Rattle.wire_io.specs.Devices.{Rose};
 ghost use Rattle.rpyc_cmd.specs.declared.messages.Question.{Question};
 ghost use Rattle.rpyc_cmd.specs.declared.messages.Question.TheVariants as question;
-ghost use Rattle.rpyc_cmd.specs.Messages.{asks, reply, root, namespace, senders, by_value, number};
+ghost use Rattle.rpyc_cmd.specs.Messages.{asks, root, namespace, senders};
 ghost use Rattle.rpyc_cmd.specs.Scripts.{IsLetter, IsBinding, number_of};
 ghost use Rattle.rpyc_cmd.specs.Talk.{answer, IsAnswered, IsAsked, IsIdle, exchange, stream, Carries, CarriesFront, value_of, items_from, closing, talk, printed, AreAnswered, PrintsFirst, bytes_of, CarriesPart};
 
@@ -15,6 +16,7 @@ use crate::messages::{
 };
 use crate::scripts::{Binding, number_of};
 use channel_frames::Deframer;
+use message_core::Message;
 use rp_base::{NoMemory, Plain};
 use std::alloc::Global;
 use std::fmt::Write;
@@ -51,12 +53,15 @@ fn answer(alloc: Global, bindings: &[Binding], question: Question) -> Result<Pla
 }
 
 /// B's reply to a request, which bears the request's number.
-fn reply_to(alloc: Global, request: &Plain, bindings: &[Binding]) -> Result<Plain, NoMemory>
+fn reply_to(alloc: Global, request: &Message, bindings: &[Binding]) -> Result<Message, NoMemory>
     requires { (seq : ℕ) × IsAsked bindings.now seq request.now }
-    ensures { (seq : ℕ) (q : Question) → request.now ≡ asks (pos seq) q → IfOk result (λ r. r ≡ reply (pos seq) (answer bindings.now q)) }
+    ensures { (seq : ℕ) (q : Question) → request.now ≡ asks seq q → IfOk result (λ r. r ≡ message.Reply seq (answer bindings.now q)) }
 {
     match read_question(request) {
-        Some((seq, question)) => messages::reply(alloc, seq, answer(alloc, bindings, question)?),
+        Some((seq, question)) => Ok(Message::Reply {
+            seq,
+            value: answer(alloc, bindings, question)?,
+        }),
         None => unreachable!(),
     }
 }
@@ -65,7 +70,7 @@ fn reply_to(alloc: Global, request: &Plain, bindings: &[Binding]) -> Result<Plai
 fn ask<W: Wire>(
     alloc: Global,
     seq: u64,
-    request: &Plain,
+    request: &Message,
     a: &mut SideA,
     b: &mut SideB,
     ab: &mut W,
@@ -73,10 +78,10 @@ fn ask<W: Wire>(
 ) -> Result<Plain, Cut>
     requires asked { IsAsked b.old.bindings.items seq request.now }
     requires idle { IsIdle (W.queue ab.old) (W.queue ba.old) a.old.inbox b.old.inbox }
-    ensures answered { (q : Question) → request.now ≡ asks (pos seq) q → IfOk result (λ value. value ≡ answer b.old.bindings.items q) }
-    ensures carried { (q : Question) → request.now ≡ asks (pos seq) q → OnOk result (Carries (stream (exchange b.old.bindings.items seq q)) (W.carried ab.old) (W.carried ab.new) (W.carried ba.old) (W.carried ba.new)) }
+    ensures answered { (q : Question) → request.now ≡ asks seq q → IfOk result (λ value. value ≡ answer b.old.bindings.items q) }
+    ensures carried { (q : Question) → request.now ≡ asks seq q → OnOk result (Carries (stream (exchange b.old.bindings.items seq q)) (W.carried ab.old) (W.carried ab.new) (W.carried ba.old) (W.carried ba.new)) }
     ensures idle { OnOk result (IsIdle (W.queue ab.new) (W.queue ba.new) a.new.inbox b.new.inbox) }
-    ensures part { (q : Question) → request.now ≡ asks (pos seq) q → OnErr result (CarriesFront (stream (exchange b.old.bindings.items seq q)) (W.carried ab.old) (W.carried ab.new) (W.carried ba.old) (W.carried ba.new)) }
+    ensures part { (q : Question) → request.now ≡ asks seq q → OnErr result (CarriesFront (stream (exchange b.old.bindings.items seq q)) (W.carried ab.old) (W.carried ab.new) (W.carried ba.old) (W.carried ba.new)) }
     ensures kept { (a.new.output ≡ a.old.output) × (b.new.bindings ≡ b.old.bindings) }
     ensures begun { (W.begun ab.new ≡ W.begun ab.old) × (W.begun ba.new ≡ W.begun ba.old) }
     ensures later { (W.fault_count ab.old ≤ W.fault_count ab.new) × (W.fault_count ba.old ≤ W.fault_count ba.new) }
@@ -85,8 +90,8 @@ fn ask<W: Wire>(
     let heard = deliver(alloc, request, ab, &mut b.inbox)?;
     let reply = reply_to(alloc, &heard, &b.bindings)?;
     let heard = deliver(alloc, &reply, ba, &mut a.inbox)?;
-    match reply_value(&heard, seq) {
-        Some(value) => Ok(value.copy(alloc)?),
+    match reply_value(heard, seq) {
+        Some(value) => Ok(value),
         None => unreachable!(),
     }
 }
@@ -169,10 +174,10 @@ fn print_item<W: Wire>(
     ab: &mut W,
     ba: &mut W,
 ) -> Result<(), Cut>
-    requires answered { IsAnswered b.old.bindings.items (question.GetItem letter) × (seq ≤ 159) }
+    requires answered { IsAnswered b.old.bindings.items (question.GetItem letter) }
     requires dict { dict.now ≡ namespace }
     requires idle { IsIdle (W.queue ab.old) (W.queue ba.old) a.old.inbox b.old.inbox }
-    ensures printed { OnOk result (string_bytes a.new.output ≡ string_bytes a.old.output ++ (decimal (value_of b.old.bindings.items letter) ++ 10 ∷ [])) }
+    ensures printed { OnOk result (string_bytes a.new.output ≡ string_bytes a.old.output ++ (signed_decimal (value_of b.old.bindings.items letter) ++ 10 ∷ [])) }
     ensures unprinted { IsErrOf result Cut.Wire → a.new.output ≡ a.old.output }
     ensures carried { OnOk result (Carries (stream (exchange b.old.bindings.items seq (question.GetItem letter))) (W.carried ab.old) (W.carried ab.new) (W.carried ba.old) (W.carried ba.new)) }
     ensures part { OnErr result (CarriesFront (stream (exchange b.old.bindings.items seq (question.GetItem letter))) (W.carried ab.old) (W.carried ab.new) (W.carried ba.old) (W.carried ba.new)) }
@@ -221,10 +226,9 @@ fn print_items<W: Wire>(
 
 /// Tells B to close, and has B read it.
 fn close<W: Wire>(alloc: Global, seq: u64, b: &mut SideB, ab: &mut W) -> Result<(), Cut>
-    requires small { seq ≤ 159 }
     requires idle { (W.queue ab.old ≡ []) × (b.old.inbox ≡ []) }
-    ensures carried { OnOk result (W.carried ab.new ≡ W.carried ab.old ++ bytes_of (asks (pos seq) question.Close)) }
-    ensures part { OnErr result (CarriesPart (bytes_of (asks (pos seq) question.Close)) (W.carried ab.old) (W.carried ab.new)) }
+    ensures carried { OnOk result (W.carried ab.new ≡ W.carried ab.old ++ bytes_of (asks seq question.Close)) }
+    ensures part { OnErr result (CarriesPart (bytes_of (asks seq question.Close)) (W.carried ab.old) (W.carried ab.new)) }
     ensures begun { W.begun ab.new ≡ W.begun ab.old }
     ensures later { W.fault_count ab.old ≤ W.fault_count ab.new }
     ensures failed { IsErrOf result Cut.Wire → Rose (W.fault_count ab.old) (W.fault_count ab.new) }
