@@ -1,5 +1,10 @@
 pub mod Examples
 pub mod Fronts
 pub mod Loop
+pub mod Meets
+pub mod Sizes
+pub mod Stays
+pub mod Tags
 pub mod Utf8
 pub mod Values
+pub mod Whole

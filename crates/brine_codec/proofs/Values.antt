@@ -1,6 +1,6 @@
 -- Recursion and induction over plain values.
-use Rattle.std.proofs.Common.{◌≡◌, ℕ, ◌+◌, ◌*◌, ◌^◌, ◌∷◌, ◌++◌, [], List, Bool, true, false, ◌&&◌, ltb, map, length, max, fold, refl, sym, ◌∙◌, ap, subst, ℤ, ◌≤◌, ◌<◌, arith}
-use Rattle.std.proofs.lemmas.Bool.{ltb-true}
+use Rattle.std.proofs.Common.{◌≡◌, ℕ, ◌+◌, ◌*◌, ◌^◌, ◌∷◌, ◌++◌, [], List, Bool, true, false, ◌&&◌, ltb, map, length, max, fold, refl, sym, ◌∙◌, ap, subst, ℤ, pos, negsuc, ◌≤◌, ◌<◌, arith}
+use Rattle.std.proofs.lemmas.Bool.{ltb-true, lt-ltb}
 use Rattle.std.specs.List.{flat_map, concat, All, AllByRecursion}
 use Rattle.std.proofs.lemmas.List.Elements.{All-from_recursion}
 use Rattle.rp_base.specs.declared.plain.Plain.{Plain, roll-Plain}
@@ -10,7 +10,7 @@ use Rattle.rp_base.specs.declared.plain.Plain.TheViews as views
 use Rattle.rp_base.specs.declared.plain.Plain.TheFolds.{ind-Plain, map-Plain}
 use Rattle.rp_base.specs.PlainLaws.{gather_tuple, depth_tuple}
 use Rattle.rp_base.specs.PlainValues.{plain_depth}
-use Rattle.brine_codec.specs.Spelling.{spelling, spelling_step, spellable, spellable_step, all_true, is_size, count_spelling}
+use Rattle.brine_codec.specs.Spelling.{is_small_int, int_tag, spelling, spelling_step, spellable, spellable_step, all_true, is_size, count_spelling}
 
 concat-map : (f : Plain → List ℕ) (xs : List Plain) → concat (map f xs) ≡ flat_map f xs
 concat-map f [] = refl
@@ -106,3 +106,14 @@ each_deep (x ∷ xs) n h = (h.0, each_deep xs n h.1)
 
 pub items_deep : (xs : List Plain) → All (λ v. plain_depth v ≤ fold max 0 (map plain_depth xs)) xs
 items_deep xs = let n = fold max 0 (map plain_depth xs) in All-from_recursion (λ v. plain_depth v ≤ n) xs (each_deep xs n (each_within 0 (map plain_depth xs) n (omega arith)).1)
+
+-- ---- an int from -48 to 159
+
+pub small_int_spelled : (z : ℤ) → is_small_int z ≡ true → spelling (plain.Int z) ≡ int_tag z ∷ []
+unfolding spelling
+small_int_spelled z small = rw small refl
+
+pub small_int_spellable : (z : ℤ) → is_small_int z ≡ true → spellable (plain.Int z) ≡ true
+unfolding spellable
+small_int_spellable (pos n) small = let low : n < 160 = ltb-true n 160 small in lt-ltb n (2 ^ 127) (omega arith)
+small_int_spellable (negsuc n) small = let low : n < 48 = ltb-true n 48 small in lt-ltb n (2 ^ 127) (omega arith)

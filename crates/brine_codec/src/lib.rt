@@ -5,8 +5,15 @@ mod decoding;
 mod encoding;
 mod ends;
 mod int_text;
+mod laws;
 mod tag;
+#[cfg(test)]
+mod tests;
 
 pub use decoding::decode;
 pub use encoding::encode;
 pub use ends::{BrineFault, BrineKind, DecodeEnd};
+pub use laws::{
+    bytes_behind_are_refused, cuts_stand_at_the_end, faults_stay_first, fronts_of_spellings_are_cut,
+    one_spelling, only_spellings_are_read, spellings_are_read,
+};

@@ -1,0 +1,44 @@
+ghost use Rattle.std.specs.Prelude.{◌≡◌, ◌≢◌, ◌≤◌, ◌++◌, ◌∷◌, [], List, ℕ, IsTrue, Ok, Err, length};
+ghost use Rattle.rp_base.specs.declared.plain.Plain.{Plain};
+ghost use Rattle.rp_base.specs.PlainValues.{plain_depth};
+ghost use Rattle.brine_codec.specs.declared.ends.BrineFault.{BrineFault};
+ghost use Rattle.brine_codec.specs.declared.ends.BrineKind.TheVariants as kinds;
+ghost use Rattle.brine_codec.specs.Spelling.{IsBytes, spelling, spellable};
+ghost use Rattle.brine_codec.specs.Reading.{decoded};
+
+/// A value has one spelling, and no spelling begins another.
+pub fn one_spelling()
+    ensures { (v w : Plain) (x y : List ℕ) → IsTrue (spellable v) → IsTrue (spellable w) → spelling v ++ x ≡ spelling w ++ y → (v ≡ w) × (x ≡ y) }
+{}
+
+/// What is spelled is read.
+pub fn spellings_are_read()
+    ensures { (v : Plain) → IsTrue (spellable v) → plain_depth v ≤ 100 → decoded (spelling v) ≡ Ok v }
+{}
+
+/// What is read was spelled.
+pub fn only_spellings_are_read()
+    ensures { (bytes : List ℕ) (v : Plain) → IsBytes bytes → decoded bytes ≡ Ok v → IsTrue (spellable v) × (plain_depth v ≤ 100) × (bytes ≡ spelling v) }
+{}
+
+/// A spelling that lacks bytes at its end is cut there.
+pub fn fronts_of_spellings_are_cut()
+    ensures { (v : Plain) (front more : List ℕ) → IsTrue (spellable v) → plain_depth v ≤ 100 → front ++ more ≡ spelling v → more ≢ []
+        → decoded front ≡ Err (record { at = length front; what = kinds.B3 }) }
+{}
+
+/// A cut is told at the input's length.
+pub fn cuts_stand_at_the_end()
+    ensures { (bytes : List ℕ) (f : BrineFault) → decoded bytes ≡ Err f → f.what ≡ kinds.B3 → f.at ≡ length bytes }
+{}
+
+/// Any other fault is the same, in the same place, whatever bytes come behind: it is the first from the left.
+pub fn faults_stay_first()
+    ensures { (bytes more : List ℕ) (f : BrineFault) → decoded bytes ≡ Err f → f.what ≢ kinds.B3 → decoded (bytes ++ more) ≡ Err f }
+{}
+
+/// A byte behind a spelling is one too many.
+pub fn bytes_behind_are_refused()
+    ensures { (v : Plain) (b : ℕ) (more : List ℕ) → IsTrue (spellable v) → plain_depth v ≤ 100
+        → decoded (spelling v ++ b ∷ more) ≡ Err (record { at = length (spelling v); what = kinds.B9 }) }
+{}
