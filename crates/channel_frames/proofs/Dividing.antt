@@ -1,10 +1,10 @@
 -- The frames of a whole stream: more bytes behind it, and the way of a deframer through it.
-use Rattle.std.proofs.Common.{◌≡◌, ℕ, zero, suc, ◌+◌, ◌<◌, ◌≤◌, List, [], ◌∷◌, ◌++◌, length, get_or, refl, sym, subst, ap, ◌∙◌, append_assoc, append-nil, arith}
-use Rattle.std.specs.Prelude.{All, flat_map}
-use Rattle.channel_frames.specs.Frames.{front, frame_of, longest, IsBytes, Tells, Front, Whole, Part, Faulty, Fault}
-use Rattle.channel_frames.specs.Streams.{Frames, Splits, Ending, Rest, Stop, after, behind, behind_all, read_on, frames_within, frames_from, left, resumed, placed, Turn, Fed, Given, Leads, fed, given}
+use Rattle.std.proofs.Common.{false, ◌≡◌, ℕ, zero, suc, ◌+◌, ◌<◌, ◌≤◌, List, [], ◌∷◌, ◌++◌, length, get_or, take, drop, ◌-◌, refl, sym, subst, ap, ◌∙◌, append_assoc, append-nil, arith}
+use Rattle.std.specs.Prelude.{◌==◌, All, flat_map, Option, Some, None, Ok}
+use Rattle.channel_frames.specs.Frames.{front, frame_of, longest, IsBytes, Tells, Judges, Front, Whole, Part, Faulty, Fault}
+use Rattle.channel_frames.specs.Streams.{Frames, frames, Splits, Rest, Stop, after, behind, behind_all, read_on, frames_within, frames_from, left, resumed, placed, Turn, Fed, Given, Leads, fed, given}
 use Rattle.channel_frames.proofs.Judging.{front-length, front-more, front-faulty, front-whole, front-only}
-use Rattle.std.proofs.lemmas.List.{get_or-append-add}
+use Rattle.std.proofs.lemmas.List.{get_or-append-add, take_rest}
 use Rattle.std.proofs.lemmas.List.Elements.{All-cons}
 use Rattle.channel_frames.specs.declared.fault.FrameFault.{FrameFault}
 
@@ -141,19 +141,19 @@ alone s none = ([], s, record { fit = λ k d l. absurd (omega (arith, l)); joine
 behind-fits : (s body rest : List ℕ) → IsBytes s → s ≡ frame_of body ++ rest → IsBytes rest
 behind-fits s body rest fits e i =
     let same : get_or s (length (frame_of body) + i) 0 ≡ get_or rest i 0 =
-        ap (λ (t : List ℕ). get_or t (length (frame_of body) + i) 0) e ∙ get_or-append-add (frame_of body) rest i 0 in
+    ap (λ (t : List ℕ). get_or t (length (frame_of body) + i) 0) e ∙ get_or-append-add (frame_of body) rest i 0 in
     subst (λ (b : ℕ). b < 256) same (fits (length (frame_of body) + i))
 
 one-more : (s body rest : List ℕ) → length body ≤ longest → s ≡ frame_of body ++ rest → IsSplit rest → IsSplit s
 one-more s body rest short e (bodies, tail, split) = (
-      body ∷ bodies,
-      tail,
-      record {
-        fit = All-cons (λ b. length b ≤ longest) body bodies short split.fit;
-        joined = e ∙ ap (λ (t : List ℕ). frame_of body ++ t) split.joined ∙ sym (append_assoc (frame_of body) (flat_map frame_of bodies) tail);
-        ended = split.ended
-      },
-    )
+  body ∷ bodies,
+  tail,
+  record {
+    fit = All-cons (λ b. length b ≤ longest) body bodies short split.fit;
+    joined = e ∙ ap (λ (t : List ℕ). frame_of body ++ t) split.joined ∙ sym (append_assoc (frame_of body) (flat_map frame_of bodies) tail);
+    ended = split.ended;
+  },
+)
 
 split-on : (s : List ℕ) (f : Front) → front s ≡ f → IsBytes s → ((r : List ℕ) → length r < length s → IsBytes r → IsSplit r) → IsSplit s
 split-on s (Whole body rest) e fits again =
@@ -175,3 +175,25 @@ streams-split s fits = split-within (suc (length s)) s (omega arith) fits
 pub faulty-no-frame : (s more body rest : List ℕ) (fault : Fault) (place : ℕ) → front s ≡ Faulty fault place → length body ≤ longest → s ++ more ≡ frame_of body ++ rest → ⊥
 faulty-no-frame s more body rest fault place e short h =
     faulty_not_whole fault place body rest (sym (front-faulty s more fault place e) ∙ ap front h ∙ front-whole body rest short)
+
+-- ---- the loop of `finish`
+
+abbrev Found : ℕ → List ℕ → Type 0
+Found n s = (n + 6 ≤ length s) × (front s ≡ Whole (take n (drop 5 s)) (drop (n + 6) s)) × (n ≤ longest)
+
+pub left-next : (total : ℕ) (s : List ℕ) (o : Option ℕ) (n : ℕ) → o ≡ Some n → Judges (Ok o) s → total ≡ left (frames s).1
+    → total ≡ left (frames (take (length s - (5 + n + 1)) (drop (5 + n + 1) s))).1
+left-next total s o n e judges h =
+    let found : Found n s = subst (λ (x : Option ℕ). Judges (Ok x) s) e judges in
+    let same : drop (n + 6) s ≡ take (length s - (5 + n + 1)) (drop (5 + n + 1) s) =
+    ap (λ (k : ℕ). drop k s) (omega arith) ∙ sym (take_rest s (5 + n + 1)) in
+    h ∙ left-whole s (take n (drop 5 s)) (drop (n + 6) s) found.1 ∙ ap (λ (r : List ℕ). left (frames r).1) same
+
+pub left-last : (total : ℕ) (s : List ℕ) (o : Option ℕ) → o ≡ None → Judges (Ok o) s → total ≡ left (frames s).1 → total ≡ length s
+left-last total s o e judges h =
+    let found : front s ≡ Part = subst (λ (x : Option ℕ). Judges (Ok x) s) e judges in
+    h ∙ left-part s found
+
+pub some-left : (s : List ℕ) → (length s == 0) ≡ false → 0 < length s
+some-left [] h = absurd cc
+some-left (x ∷ s) h = omega arith

@@ -211,7 +211,7 @@ front-more (a ∷ b ∷ c ∷ d ∷ f ∷ r) t body rest h =
     let n = from_be_bytes w32 (a ∷ b ∷ c ∷ d ∷ []) in
     let g = judged-spelled n f r body rest (sym (front-judged (a ∷ b ∷ c ∷ d ∷ f ∷ r) (omega arith)) ∙ h) in
     let joined : r ++ t ≡ body ++ 10 ∷ (rest ++ t) =
-        ap (λ (x : List ℕ). x ++ t) g.3 ∙ append_assoc (body ++ 10 ∷ []) rest t ∙ append_assoc body (10 ∷ []) (rest ++ t) in
+    ap (λ (x : List ℕ). x ++ t) g.3 ∙ append_assoc (body ++ 10 ∷ []) rest t ∙ append_assoc body (10 ∷ []) (rest ++ t) in
     front-judged (a ∷ b ∷ c ∷ d ∷ f ∷ (r ++ t)) (omega arith)
     ∙ ap (λ (k : ℕ). judged n k (r ++ t)) g.1
     ∙ ap (λ (x : List ℕ). judged n 0 x) joined
@@ -220,11 +220,11 @@ front-more (a ∷ b ∷ c ∷ d ∷ f ∷ r) t body rest h =
 judged-faulty : (n f : ℕ) (r t : List ℕ) (fault : Fault) (place : ℕ) → judged n f r ≡ Faulty fault place → judged n f (r ++ t) ≡ Faulty fault place
 judged-faulty n f r t fault place h =
     let stays : Stays (ltb n (length r)) (eqb (get_or r n 0) 10) (ltb n (length (r ++ t))) (eqb (get_or (r ++ t) n 0) 10) (get_or r n 0) (get_or (r ++ t) n 0) =
-        λ there.
-            let few : n < length r = ltb-true n (length r) there in
-            let more : n < length (r ++ t) = omega (arith, length-append r t) in
-            let byte : get_or (r ++ t) n 0 ≡ get_or r n 0 = get_or_append_left r t 0 n few in
-            (lt-ltb n (length (r ++ t)) more, ap (λ (b : ℕ). eqb b 10) byte, byte) in
+    λ there.
+    let few : n < length r = ltb-true n (length r) there in
+    let more : n < length (r ++ t) = omega (arith, length-append r t) in
+    let byte : get_or (r ++ t) n 0 ≡ get_or r n 0 = get_or_append_left r t 0 n few in
+    (lt-ltb n (length (r ++ t)) more, ap (λ (b : ℕ). eqb b 10) byte, byte) in
     chosen-faulty (ltb longest n) (eqb f 1) (eqb f 0) (ltb n (length r)) (eqb (get_or r n 0) 10) (ltb n (length (r ++ t))) (eqb (get_or (r ++ t) n 0) 10) n f (get_or r n 0) (get_or (r ++ t) n 0) (take n r) (drop (n + 1) r) (take n (r ++ t)) (drop (n + 1) (r ++ t)) fault place stays h
 
 part_or_faulty : (fault : Fault) (place : ℕ) → Part ≡ Faulty fault place → ⊥

@@ -60,7 +60,7 @@ Tells answer (Whole body rest) = ⊥
 
 -- the length of the data of the frame in front, where a whole one is there, or the fault
 abbrev pub Judges : Result (Option ℕ) FrameFault → List ℕ → Type 0
-Judges (Ok (Some n)) bytes = (n + 6 ≤ length bytes) × (front bytes ≡ Whole (take n (drop 5 bytes)) (drop (n + 6) bytes))
+Judges (Ok (Some n)) bytes = (n + 6 ≤ length bytes) × (front bytes ≡ Whole (take n (drop 5 bytes)) (drop (n + 6) bytes)) × (n ≤ longest)
 Judges (Ok None) bytes = front bytes ≡ Part
 Judges (Err answer) bytes = Tells answer (front bytes)
 

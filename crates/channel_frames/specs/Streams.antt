@@ -61,9 +61,9 @@ behind_all at (body ∷ bodies) = behind_all (behind at body) bodies
 
 -- The stream is the frames of these data, one behind the other, and then a tail with no whole frame in front.
 pub record Splits (bytes : List ℕ) (bodies : List (List ℕ)) (tail : List ℕ) : Type 0 where
-  fit : All (λ body. length body ≤ longest) bodies
-  joined : bytes ≡ flat_map frame_of bodies ++ tail
-  ended : (body rest : List ℕ) → front tail ≡ Whole body rest → ⊥
+  pub fit : All (λ body. length body ≤ longest) bodies
+  pub joined : bytes ≡ flat_map frame_of bodies ++ tail
+  pub ended : (body rest : List ℕ) → front tail ≡ Whole body rest → ⊥
 
 -- what happens to a deframer: a piece is fed, or a frame's data are given
 pub data Turn : Type 0 where

@@ -1,6 +1,6 @@
 use Rattle.std.proofs.Common.{◌≡◌, ℕ, ◌+◌, ◌-◌, ◌<◌, ◌≤◌, List, length, get_or, take, drop, sym, ap, ◌∙◌, arith}
 use Rattle.std.proofs.lemmas.List.{take_rest, drop-drop, length-drop}
-use Rattle.channel_frames.specs.Frames.{front, judged, Whole, TooLong, Compressed, BadFlag, BadFlusher, Front, Faulty}
+use Rattle.channel_frames.specs.Frames.{front, Whole, TooLong, Compressed, BadFlag, BadFlusher, Faulty}
 use Rattle.channel_frames.proofs.Judging.{front-short, front-numbered, from_fault, judged-too_long, judged-compressed, judged-flagged, judged-part, judged-not_flushed, judged-whole}
 use Rattle.channel_frames.proofs.deframer.body_length.Goals as goal
 
@@ -44,8 +44,8 @@ returns-then-last-ne-FLUSHER c =
     let all : n < length (drop 5 s) = omega (arith, ap (λ (t : List ℕ). length t) (take_rest s 5)) in
     let same = ap (λ (t : List ℕ). get_or t n 0) (take_rest s 5) in
     let is : front s ≡ Faulty (BadFlusher (get_or (drop 5 s) n 0)) (n + 5) =
-        front-numbered s n c.if-waiting-lt-HEADER.false c.from_be_bytes-length.ensures
-        ∙ judged-not_flushed n (get_or s 4 0) (drop 5 s) c.if-length-gt-LONGEST.false c.if-flag-ne-PLAIN.false all (λ e. c.if-last-ne-FLUSHER.true (same ∙ e)) in
+    front-numbered s n c.if-waiting-lt-HEADER.false c.from_be_bytes-length.ensures
+    ∙ judged-not_flushed n (get_or s 4 0) (drop 5 s) c.if-length-gt-LONGEST.false c.if-flag-ne-PLAIN.false all (λ e. c.if-last-ne-FLUSHER.true (same ∙ e)) in
     from_fault (front s) (BadFlusher (get_or (take (length s - 5) (drop 5 s)) n 0)) (n + 5) (is ∙ ap (λ (b : ℕ). Faulty (BadFlusher b) (n + 5)) (sym same))
 
 pub returns : goal.returns
@@ -59,4 +59,5 @@ returns c =
       front-numbered s n c.if-waiting-lt-HEADER.false c.from_be_bytes-length.ensures
           ∙ judged-whole n (get_or s 4 0) (drop 5 s) c.if-length-gt-LONGEST.false c.if-flag-ne-PLAIN.false all last
           ∙ ap (λ (t : List ℕ). Whole (take n (drop 5 s)) t) behind,
+      c.if-length-gt-LONGEST.false,
     )

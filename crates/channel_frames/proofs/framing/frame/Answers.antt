@@ -1,4 +1,4 @@
-use Rattle.std.proofs.Common.{◌≡◌, ◌≤◌, length, refl, inl, inr}
+use Rattle.std.proofs.Common.{length, refl, inl}
 use Rattle.channel_frames.proofs.Judging.{refused}
 use Rattle.channel_frames.proofs.framing.frame.Goals as goal
 

@@ -1,4 +1,4 @@
-use Rattle.std.proofs.Common.{◌≡◌, ℕ, length}
+use Rattle.std.proofs.Common.{◌≡◌, length}
 use Rattle.channel_frames.specs.Streams.{frames, left}
 use Rattle.channel_frames.proofs.deframer.Deframer.finish.Given as goal
 
