@@ -12,7 +12,7 @@ use Rattle.channel_frames.specs.Frames.{front, judged, Refuses, Tells, answer_of
 -- ---- by the length, the flag and the bytes behind
 
 -- the tests: too long, compressed, not compressed, all there, the flusher
-abbrev chosen : Bool → Bool → Bool → Bool → Bool → ℕ → ℕ → ℕ → Front → Front
+abbrev pub chosen : Bool → Bool → Bool → Bool → Bool → ℕ → ℕ → ℕ → Front → Front
 chosen l z p m e n f u x = cond l (Faulty (TooLong n) 0) (cond z (Faulty Compressed 4) (cond p (cond m (cond e x (Faulty (BadFlusher u) (n + 5))) Part) (Faulty (BadFlag f) 4)))
 
 record Picked (l p m e : Bool) (x w : Front) : Type 0 where
@@ -142,7 +142,7 @@ judged-spelled n f r body rest h =
 part_or_whole : (body rest : List ℕ) → Part ≡ Whole body rest → ⊥
 part_or_whole body rest h = cc
 
-four_fit : (a b c d : ℕ) → a < 256 → b < 256 → c < 256 → d < 256 → (i : ℕ) → get_or (a ∷ b ∷ c ∷ d ∷ []) i 0 < 256
+pub four_fit : (a b c d : ℕ) → a < 256 → b < 256 → c < 256 → d < 256 → (i : ℕ) → get_or (a ∷ b ∷ c ∷ d ∷ []) i 0 < 256
 four_fit a b c d p q r s zero = p
 four_fit a b c d p q r s (suc zero) = q
 four_fit a b c d p q r s (suc (suc zero)) = r
@@ -227,7 +227,7 @@ judged-faulty n f r t fault place h =
     (lt-ltb n (length (r ++ t)) more, ap (λ (b : ℕ). eqb b 10) byte, byte) in
     chosen-faulty (ltb longest n) (eqb f 1) (eqb f 0) (ltb n (length r)) (eqb (get_or r n 0) 10) (ltb n (length (r ++ t))) (eqb (get_or (r ++ t) n 0) 10) n f (get_or r n 0) (get_or (r ++ t) n 0) (take n r) (drop (n + 1) r) (take n (r ++ t)) (drop (n + 1) (r ++ t)) fault place stays h
 
-part_or_faulty : (fault : Fault) (place : ℕ) → Part ≡ Faulty fault place → ⊥
+pub part_or_faulty : (fault : Fault) (place : ℕ) → Part ≡ Faulty fault place → ⊥
 part_or_faulty fault place h = cc
 
 pub front-faulty : (s t : List ℕ) (fault : Fault) (place : ℕ) → front s ≡ Faulty fault place → front (s ++ t) ≡ Faulty fault place

@@ -1,5 +1,5 @@
 -- Frames, and what the bytes of a stream have in front.
-use Rattle.std.specs.Prelude.{◌≡◌, ℕ, ◌+◌, ◌<◌, ◌≤◌, List, [], ◌∷◌, ◌++◌, ◌⊎◌, length, take, drop, slice_index, nat_lt, ◌==◌, if◌then◌else◌, Option, Some, None, Result, Ok, Err}
+use Rattle.std.specs.Prelude.{◌≡◌, ◌≢◌, ◌^◌, ℕ, ◌+◌, ◌<◌, ◌≤◌, List, [], ◌∷◌, ◌++◌, ◌⊎◌, length, take, drop, slice_index, nat_lt, ◌==◌, if◌then◌else◌, Option, Some, None, Result, Ok, Err}
 use Rattle.std.specs.Int.{w32, to_be_bytes, from_be_bytes}
 use Rattle.channel_frames.specs.declared.fault.FrameFault.{FrameFault}
 use Rattle.channel_frames.specs.declared.fault.FrameFault.TheVariants as frame_fault
@@ -78,3 +78,19 @@ Reads view (Faulty fault place) (Err answer) old new = (answer ≡ answer_of fau
 -- Why no frame was written for data of this length.
 abbrev pub Refuses : ℕ → FrameFault → Type 0
 Refuses n answer = ((longest < n) × (answer ≡ frame_fault.F1 n)) ⊎ ((n ≤ longest) × (answer ≡ frame_fault.NoMemory))
+
+-- The bytes begin with this length and this flag.
+abbrev pub Begins : ℕ → ℕ → List ℕ → Type 0
+Begins n flag bytes = (n < 2 ^ 32) × (take 5 bytes ≡ to_be_bytes w32 n ++ flag ∷ [])
+
+-- What a fault says of the bytes, and of the place of the byte that shows it.
+abbrev pub Says : Fault → ℕ → List ℕ → Type 0
+Says (TooLong n) place bytes = (flag : ℕ) × Begins n flag bytes × (longest < n) × (place ≡ 0)
+Says Compressed place bytes = (n : ℕ) × Begins n 1 bytes × (n ≤ longest) × (place ≡ 4)
+Says (BadFlag flag) place bytes = (n : ℕ) × Begins n flag bytes × (n ≤ longest) × (1 < flag) × (place ≡ 4)
+Says (BadFlusher byte) place bytes =
+    (n : ℕ) × Begins n 0 bytes × (n ≤ longest) × (place ≡ n + 5) × (place < length bytes) × (slice_index bytes place ≡ byte) × (byte ≢ 10)
+
+-- The bytes of a frame that is begun: fewer than tell its length and its flag, or fewer than the length asks for.
+abbrev pub IsBegun : List ℕ → Type 0
+IsBegun bytes = (length bytes < 5) ⊎ ((n : ℕ) × Begins n 0 bytes × (n ≤ longest) × (length bytes < n + 6))

@@ -1,5 +1,5 @@
-ghost use Rattle.std.specs.Prelude.{◌≡◌, ◌≢◌, ℕ, List, [], ◌++◌, ◌≤◌, All, flat_map, length};
-ghost use Rattle.channel_frames.specs.Frames.{front, frame_of, IsBytes, Whole, Part, Faulty, Fault};
+ghost use Rattle.std.specs.Prelude.{◌≡◌, ◌≢◌, ◌↔◌, ℕ, List, [], ◌++◌, ◌≤◌, All, flat_map, length};
+ghost use Rattle.channel_frames.specs.Frames.{front, frame_of, IsBytes, Whole, Part, Faulty, Fault, IsBegun, Says};
 ghost use Rattle.channel_frames.specs.Streams.{Turn, Leads, Splits, after, behind_all, fed, frames, frames_from, given, placed, read_on, resumed};
 
 use crate::framing::LONGEST;
@@ -19,6 +19,20 @@ pub fn only_frames_are_read()
 pub fn fronts_of_frames_are_parts()
     ensures { (body given missing : List ℕ) → length body ≤ LONGEST → frame_of body ≡ given ++ missing → missing ≢ []
         → front given ≡ Part }
+{}
+
+/// Less than a frame is in front exactly where a frame is begun. Once its length and its flag are there, the bytes are
+/// those of a frame without its last ones.
+pub fn parts_are_begun_frames()
+    ensures begun { (bytes : List ℕ) → IsBytes bytes → front bytes ≡ Part ↔ IsBegun bytes }
+    ensures front_of_a_frame { (bytes : List ℕ) → IsBytes bytes → front bytes ≡ Part → 5 ≤ length bytes
+        → (body missing : List ℕ) × (length body ≤ LONGEST) × (missing ≢ []) × (frame_of body ≡ bytes ++ missing) }
+{}
+
+/// A fault is in front exactly where the bytes have what it says: a length above the limit, else a flag that is not 0,
+/// else another byte than the flusher behind the data. It stands at the first byte, at the flag, at that byte.
+pub fn faults_say_what_is_there()
+    ensures { (bytes : List ℕ) (fault : Fault) (place : ℕ) → IsBytes bytes → front bytes ≡ Faulty fault place ↔ Says fault place bytes }
 {}
 
 /// Bytes with a fault in front keep it however they go on, and begin no frame.
