@@ -1,21 +1,19 @@
 -- What stands in front of a stream, by its first bytes, and the laws of frames.
-use Rattle.std.proofs.Common.{◌≡◌, ◌≢◌, ℕ, zero, suc, ◌+◌, ◌<◌, ◌≤◌, Bool, true, false, cond, eqb, ltb, List, [], ◌∷◌, ◌++◌, length, get_or, take, drop, refl, sym, ap, subst, ◌∙◌, append_assoc, arith}
+use Rattle.std.proofs.Common.{◌≡◌, ◌≢◌, ℕ, zero, suc, ◌+◌, ◌<◌, ◌≤◌, Bool, true, false, cond, eqb, ltb, List, [], ◌∷◌, ◌++◌, length, get_or, take, drop, refl, sym, inr, ap, subst, ◌∙◌, append_assoc, arith}
 use Rattle.std.specs.Int.{w32, from_be_bytes, to_be_bytes}
 use Rattle.std.proofs.lemmas.Bool.{ltb-false, ltb-true, le-ltb, lt-ltb, eqb-true, eq-eqb, ne_eqb}
-use Rattle.std.proofs.lemmas.List.{take_at, drop_at, take-append-drop, length-append, length-take, get_or_at, drop_more}
+use Rattle.std.proofs.lemmas.List.{take_at, drop_at, take-append-drop, length-append, length-take, get_or_at, get_or_append_left, drop_more}
 use Rattle.std.proofs.lemmas.Nat.{be_bytes_4, from_be_bytes-to_be_bytes_4}
-use Rattle.channel_frames.specs.Frames.{front, judged, frame_of, IsBytes, IsFaulty, longest, Front, Whole, Part, Faulty, TooLong, Compressed, BadFlag, BadFlusher}
+use Rattle.std.specs.Prelude.{Result, Ok, Err, IfErr, IsErrAnd}
+use Rattle.channel_frames.specs.declared.fault.FrameFault.{FrameFault}
+use Rattle.channel_frames.specs.declared.fault.FrameFault.TheVariants as frame_fault
+use Rattle.channel_frames.specs.Frames.{front, judged, Refuses, Tells, answer_of, frame_of, IsBytes, longest, Front, Whole, Part, Faulty, Fault, TooLong, Compressed, BadFlag, BadFlusher}
 
 -- ---- by the length, the flag and the bytes behind
 
 -- the tests: too long, compressed, not compressed, all there, the flusher
-abbrev chosen : Bool → Bool → Bool → Bool → Bool → Front → Front
-chosen l z p m e x = cond l (Faulty TooLong) (cond z (Faulty Compressed) (cond p (cond m (cond e x (Faulty BadFlusher)) Part) (Faulty BadFlag)))
-
-chosen-faulty : (l z m e : Bool) (x : Front) → IsFaulty (chosen l z false m e x)
-chosen-faulty true z m e x = tt
-chosen-faulty false true m e x = tt
-chosen-faulty false false m e x = tt
+abbrev pub chosen : Bool → Bool → Bool → Bool → Bool → ℕ → ℕ → ℕ → Front → Front
+chosen l z p m e n f u x = cond l (Faulty (TooLong n) 0) (cond z (Faulty Compressed 4) (cond p (cond m (cond e x (Faulty (BadFlusher u) (n + 5))) Part) (Faulty (BadFlag f) 4)))
 
 record Picked (l p m e : Bool) (x w : Front) : Type 0 where
   short : l ≡ false
@@ -24,28 +22,57 @@ record Picked (l p m e : Bool) (x w : Front) : Type 0 where
   flushed : e ≡ true
   same : x ≡ w
 
-chosen-whole : (l z p m e : Bool) (x : Front) (body rest : List ℕ) → chosen l z p m e x ≡ Whole body rest → Picked l p m e x (Whole body rest)
-chosen-whole true z p m e x body rest h = absurd cc
-chosen-whole false true p m e x body rest h = absurd cc
-chosen-whole false false false m e x body rest h = absurd cc
-chosen-whole false false true false e x body rest h = absurd cc
-chosen-whole false false true true false x body rest h = absurd cc
-chosen-whole false false true true true x body rest h = record { short = refl; plain = refl; there = refl; flushed = refl; same = h }
+chosen-whole : (l z p m e : Bool) (n f u : ℕ) (x : Front) (body rest : List ℕ) → chosen l z p m e n f u x ≡ Whole body rest → Picked l p m e x (Whole body rest)
+chosen-whole true z p m e n f u x body rest h = absurd cc
+chosen-whole false true p m e n f u x body rest h = absurd cc
+chosen-whole false false false m e n f u x body rest h = absurd cc
+chosen-whole false false true false e n f u x body rest h = absurd cc
+chosen-whole false false true true false n f u x body rest h = absurd cc
+chosen-whole false false true true true n f u x body rest h = record { short = refl; plain = refl; there = refl; flushed = refl; same = h }
 
-pub judged-too_long : (n f : ℕ) (r : List ℕ) → longest < n → IsFaulty (judged n f r)
-judged-too_long n f r h = rw (lt-ltb longest n h) tt
+-- a fault stays, where the byte behind the data stays once it is there
+abbrev Stays : Bool → Bool → Bool → Bool → ℕ → ℕ → Type 0
+Stays m e m' e' u u' = m ≡ true → (m' ≡ true) × (e' ≡ e) × (u' ≡ u)
 
-pub judged-flagged : (n f : ℕ) (r : List ℕ) → (f ≡ 0 → ⊥) → IsFaulty (judged n f r)
-judged-flagged n f r h = rw (ne_eqb f 0 h) (chosen-faulty (ltb longest n) (eqb f 1) (ltb n (length r)) (eqb (get_or r n 0) 10) (Whole (take n r) (drop (n + 1) r)))
+chosen-faulty : (l z p m e m' e' : Bool) (n f u u' : ℕ) (body rest body' rest' : List ℕ) (fault : Fault) (place : ℕ) → Stays m e m' e' u u'
+    → chosen l z p m e n f u (Whole body rest) ≡ Faulty fault place → chosen l z p m' e' n f u' (Whole body' rest') ≡ Faulty fault place
+chosen-faulty true z p m e m' e' n f u u' body rest body' rest' fault place s h = h
+chosen-faulty false true p m e m' e' n f u u' body rest body' rest' fault place s h = h
+chosen-faulty false false false m e m' e' n f u u' body rest body' rest' fault place s h = h
+chosen-faulty false false true false e m' e' n f u u' body rest body' rest' fault place s h = absurd cc
+chosen-faulty false false true true true m' e' n f u u' body rest body' rest' fault place s h = absurd cc
+chosen-faulty false false true true false m' e' n f u u' body rest body' rest' fault place s h = rw ((s refl).0, (s refl).1, (s refl).2) h
+
+pub judged-too_long : (n f : ℕ) (r : List ℕ) → longest < n → judged n f r ≡ Faulty (TooLong n) 0
+judged-too_long n f r h = rw (lt-ltb longest n h) refl
+
+pub judged-compressed : (n f : ℕ) (r : List ℕ) → n ≤ longest → f ≡ 1 → judged n f r ≡ Faulty Compressed 4
+judged-compressed n f r h z = rw (z, le-ltb longest n h) refl
+
+pub judged-flagged : (n f : ℕ) (r : List ℕ) → n ≤ longest → (f ≡ 0 → ⊥) → (f ≡ 1 → ⊥) → judged n f r ≡ Faulty (BadFlag f) 4
+judged-flagged n f r h z o = rw (le-ltb longest n h, ne_eqb f 0 z, ne_eqb f 1 o) refl
 
 pub judged-part : (n f : ℕ) (r : List ℕ) → n ≤ longest → f ≡ 0 → length r ≤ n → judged n f r ≡ Part
 judged-part n f r h z s = rw (z, le-ltb longest n h, le-ltb n (length r) s) refl
 
-pub judged-not_flushed : (n f : ℕ) (r : List ℕ) → n ≤ longest → f ≡ 0 → n < length r → (get_or r n 0 ≡ 10 → ⊥) → IsFaulty (judged n f r)
-judged-not_flushed n f r h z s e = rw (z, le-ltb longest n h, lt-ltb n (length r) s, ne_eqb (get_or r n 0) 10 e) tt
+pub judged-not_flushed : (n f : ℕ) (r : List ℕ) → n ≤ longest → f ≡ 0 → n < length r → (get_or r n 0 ≡ 10 → ⊥) → judged n f r ≡ Faulty (BadFlusher (get_or r n 0)) (n + 5)
+judged-not_flushed n f r h z s e = rw (z, le-ltb longest n h, lt-ltb n (length r) s, ne_eqb (get_or r n 0) 10 e) refl
 
 pub judged-whole : (n f : ℕ) (r : List ℕ) → n ≤ longest → f ≡ 0 → n < length r → get_or r n 0 ≡ 10 → judged n f r ≡ Whole (take n r) (drop (n + 1) r)
 judged-whole n f r h z s e = rw (z, le-ltb longest n h, lt-ltb n (length r) s, eq-eqb (get_or r n 0) 10 e) refl
+
+-- by the data and the flusher
+judged-read : (n : ℕ) (body rest : List ℕ) → n ≤ longest → length body ≡ n → judged n 0 (body ++ 10 ∷ rest) ≡ Whole body rest
+judged-read n body rest h long =
+    let len : n < length (body ++ 10 ∷ rest) = omega (arith, length-append body (10 ∷ rest), long) in
+    let last : get_or (body ++ 10 ∷ rest) n 0 ≡ 10 = get_or_at body 10 rest 0 n long in
+    let data_is : take n (body ++ 10 ∷ rest) ≡ body = take_at body (10 ∷ rest) n long in
+    let regrouped : body ++ 10 ∷ rest ≡ (body ++ 10 ∷ []) ++ rest = sym (append_assoc body (10 ∷ []) rest) in
+    let front_len : length (body ++ 10 ∷ []) ≡ n + 1 = length-append body (10 ∷ []) ∙ ap (λ (k : ℕ). k + 1) long in
+    let rest_is : drop (n + 1) (body ++ 10 ∷ rest) ≡ rest = rw regrouped (drop_at (body ++ 10 ∷ []) rest (n + 1) front_len) in
+    judged-whole n 0 (body ++ 10 ∷ rest) h refl len last
+    ∙ ap (λ (t : List ℕ). Whole t (drop (n + 1) (body ++ 10 ∷ rest))) data_is
+    ∙ ap (λ (t : List ℕ). Whole body t) rest_is
 
 -- ---- by the first bytes
 
@@ -70,8 +97,13 @@ front-numbered s n h e =
     let number : from_be_bytes w32 (take 4 s) ≡ n = ap (λ (t : List ℕ). from_be_bytes w32 t) (take_four s h) ∙ sym e in
     front-judged s h ∙ ap (λ (k : ℕ). judged k (get_or s 4 0) (drop 5 s)) number
 
-pub from_judged : (x y : Front) → x ≡ y → IsFaulty y → IsFaulty x
-from_judged x y e h = subst IsFaulty (sym e) h
+pub from_fault : (x : Front) (fault : Fault) (place : ℕ) → x ≡ Faulty fault place → Tells (answer_of fault) x
+from_fault x fault place h = subst (λ (y : Front). Tells (answer_of fault) y) (sym h) refl
+
+-- an answer that is want of memory
+pub refused : {X : Type 0} (n : ℕ) (r : Result X FrameFault) → n ≤ longest → IsErrAnd r (λ e. e ≡ frame_fault.NoMemory) → IfErr r (Refuses n)
+refused n (Ok x) h e = tt
+refused n (Err answer) h e = inr (h, e)
 
 -- ---- the laws
 
@@ -80,18 +112,10 @@ unfolding frame_of
 front-whole body rest h =
     let tail : (body ++ 10 ∷ []) ++ rest ≡ body ++ 10 ∷ rest = append_assoc body (10 ∷ []) rest in
     let n-is : from_be_bytes w32 (to_be_bytes w32 (length body)) ≡ length body = from_be_bytes-to_be_bytes_4 (length body) (omega arith) in
-    let len : length body < length (body ++ 10 ∷ rest) = omega (arith, length-append body (10 ∷ rest)) in
-    let last : get_or (body ++ 10 ∷ rest) (length body) 0 ≡ 10 = get_or_at body 10 rest 0 (length body) refl in
-    let data_is : take (length body) (body ++ 10 ∷ rest) ≡ body = take_at body (10 ∷ rest) (length body) refl in
-    let regrouped : body ++ 10 ∷ rest ≡ (body ++ 10 ∷ []) ++ rest = sym tail in
-    let front_len : length (body ++ 10 ∷ []) ≡ length body + 1 = length-append body (10 ∷ []) in
-    let rest_is : drop (length body + 1) (body ++ 10 ∷ rest) ≡ rest = rw regrouped (drop_at (body ++ 10 ∷ []) rest (length body + 1) front_len) in
     front-judged (frame_of body ++ rest) (omega arith)
     ∙ ap (λ (t : List ℕ). judged (from_be_bytes w32 (to_be_bytes w32 (length body))) 0 t) tail
     ∙ ap (λ (n : ℕ). judged n 0 (body ++ 10 ∷ rest)) n-is
-    ∙ judged-whole (length body) 0 (body ++ 10 ∷ rest) h refl len last
-    ∙ ap (λ (t : List ℕ). Whole t (drop (length body + 1) (body ++ 10 ∷ rest))) data_is
-    ∙ ap (λ (t : List ℕ). Whole body t) rest_is
+    ∙ judged-read (length body) body rest h refl
 
 whole_body : (a b c d : List ℕ) → Whole a b ≡ Whole c d → a ≡ c
 whole_body a b c d h = cc
@@ -105,7 +129,7 @@ Spelled n f r body rest = (n ≤ longest) × (f ≡ 0) × (length body ≡ n) ×
 
 judged-spelled : (n f : ℕ) (r body rest : List ℕ) → judged n f r ≡ Whole body rest → Spelled n f r body rest
 judged-spelled n f r body rest h =
-    let p = chosen-whole (ltb longest n) (eqb f 1) (eqb f 0) (ltb n (length r)) (eqb (get_or r n 0) 10) (Whole (take n r) (drop (n + 1) r)) body rest h in
+    let p = chosen-whole (ltb longest n) (eqb f 1) (eqb f 0) (ltb n (length r)) (eqb (get_or r n 0) 10) n f (get_or r n 0) (Whole (take n r) (drop (n + 1) r)) body rest h in
     let there : n < length r = ltb-true n (length r) p.there in
     let last : get_or r n 0 ≡ 10 = eqb-true (get_or r n 0) 10 p.flushed in
     let body_is : take n r ≡ body = whole_body (take n r) (drop (n + 1) r) body rest p.same in
@@ -118,7 +142,7 @@ judged-spelled n f r body rest h =
 part_or_whole : (body rest : List ℕ) → Part ≡ Whole body rest → ⊥
 part_or_whole body rest h = cc
 
-four_fit : (a b c d : ℕ) → a < 256 → b < 256 → c < 256 → d < 256 → (i : ℕ) → get_or (a ∷ b ∷ c ∷ d ∷ []) i 0 < 256
+pub four_fit : (a b c d : ℕ) → a < 256 → b < 256 → c < 256 → d < 256 → (i : ℕ) → get_or (a ∷ b ∷ c ∷ d ∷ []) i 0 < 256
 four_fit a b c d p q r s zero = p
 four_fit a b c d p q r s (suc zero) = q
 four_fit a b c d p q r s (suc (suc zero)) = r
@@ -163,3 +187,56 @@ front-part body (a ∷ b ∷ c ∷ d ∷ f ∷ r) missing l h m =
     front-judged (a ∷ b ∷ c ∷ d ∷ f ∷ r) (omega arith)
     ∙ ap (λ (n : ℕ). judged n f r) number
     ∙ judged-part (length body) f r l (sym flag_is) fewer
+
+-- ---- more bytes
+
+pub front-length : (s body rest : List ℕ) → front s ≡ Whole body rest → length s ≡ length body + 6 + length rest
+front-length [] body rest h = absurd (part_or_whole body rest (sym (front-short [] (omega arith)) ∙ h))
+front-length (a ∷ []) body rest h = absurd (part_or_whole body rest (sym (front-short (a ∷ []) (omega arith)) ∙ h))
+front-length (a ∷ b ∷ []) body rest h = absurd (part_or_whole body rest (sym (front-short (a ∷ b ∷ []) (omega arith)) ∙ h))
+front-length (a ∷ b ∷ c ∷ []) body rest h = absurd (part_or_whole body rest (sym (front-short (a ∷ b ∷ c ∷ []) (omega arith)) ∙ h))
+front-length (a ∷ b ∷ c ∷ d ∷ []) body rest h = absurd (part_or_whole body rest (sym (front-short (a ∷ b ∷ c ∷ d ∷ []) (omega arith)) ∙ h))
+front-length (a ∷ b ∷ c ∷ d ∷ f ∷ r) body rest h =
+    let g = judged-spelled (from_be_bytes w32 (a ∷ b ∷ c ∷ d ∷ [])) f r body rest (sym (front-judged (a ∷ b ∷ c ∷ d ∷ f ∷ r) (omega arith)) ∙ h) in
+    let r_is : length r ≡ length ((body ++ 10 ∷ []) ++ rest) = ap (λ (t : List ℕ). length t) g.3 in
+    omega (arith, r_is, length-append (body ++ 10 ∷ []) rest, length-append body (10 ∷ []))
+
+pub front-more : (s t body rest : List ℕ) → front s ≡ Whole body rest → front (s ++ t) ≡ Whole body (rest ++ t)
+front-more [] t body rest h = absurd (part_or_whole body rest (sym (front-short [] (omega arith)) ∙ h))
+front-more (a ∷ []) t body rest h = absurd (part_or_whole body rest (sym (front-short (a ∷ []) (omega arith)) ∙ h))
+front-more (a ∷ b ∷ []) t body rest h = absurd (part_or_whole body rest (sym (front-short (a ∷ b ∷ []) (omega arith)) ∙ h))
+front-more (a ∷ b ∷ c ∷ []) t body rest h = absurd (part_or_whole body rest (sym (front-short (a ∷ b ∷ c ∷ []) (omega arith)) ∙ h))
+front-more (a ∷ b ∷ c ∷ d ∷ []) t body rest h = absurd (part_or_whole body rest (sym (front-short (a ∷ b ∷ c ∷ d ∷ []) (omega arith)) ∙ h))
+front-more (a ∷ b ∷ c ∷ d ∷ f ∷ r) t body rest h =
+    let n = from_be_bytes w32 (a ∷ b ∷ c ∷ d ∷ []) in
+    let g = judged-spelled n f r body rest (sym (front-judged (a ∷ b ∷ c ∷ d ∷ f ∷ r) (omega arith)) ∙ h) in
+    let joined : r ++ t ≡ body ++ 10 ∷ (rest ++ t) =
+    ap (λ (x : List ℕ). x ++ t) g.3 ∙ append_assoc (body ++ 10 ∷ []) rest t ∙ append_assoc body (10 ∷ []) (rest ++ t) in
+    front-judged (a ∷ b ∷ c ∷ d ∷ f ∷ (r ++ t)) (omega arith)
+    ∙ ap (λ (k : ℕ). judged n k (r ++ t)) g.1
+    ∙ ap (λ (x : List ℕ). judged n 0 x) joined
+    ∙ judged-read n body (rest ++ t) g.0 g.2
+
+judged-faulty : (n f : ℕ) (r t : List ℕ) (fault : Fault) (place : ℕ) → judged n f r ≡ Faulty fault place → judged n f (r ++ t) ≡ Faulty fault place
+judged-faulty n f r t fault place h =
+    let stays : Stays (ltb n (length r)) (eqb (get_or r n 0) 10) (ltb n (length (r ++ t))) (eqb (get_or (r ++ t) n 0) 10) (get_or r n 0) (get_or (r ++ t) n 0) =
+    λ there.
+    let few : n < length r = ltb-true n (length r) there in
+    let more : n < length (r ++ t) = omega (arith, length-append r t) in
+    let byte : get_or (r ++ t) n 0 ≡ get_or r n 0 = get_or_append_left r t 0 n few in
+    (lt-ltb n (length (r ++ t)) more, ap (λ (b : ℕ). eqb b 10) byte, byte) in
+    chosen-faulty (ltb longest n) (eqb f 1) (eqb f 0) (ltb n (length r)) (eqb (get_or r n 0) 10) (ltb n (length (r ++ t))) (eqb (get_or (r ++ t) n 0) 10) n f (get_or r n 0) (get_or (r ++ t) n 0) (take n r) (drop (n + 1) r) (take n (r ++ t)) (drop (n + 1) (r ++ t)) fault place stays h
+
+pub part_or_faulty : (fault : Fault) (place : ℕ) → Part ≡ Faulty fault place → ⊥
+part_or_faulty fault place h = cc
+
+pub front-faulty : (s t : List ℕ) (fault : Fault) (place : ℕ) → front s ≡ Faulty fault place → front (s ++ t) ≡ Faulty fault place
+front-faulty [] t fault place h = absurd (part_or_faulty fault place (sym (front-short [] (omega arith)) ∙ h))
+front-faulty (a ∷ []) t fault place h = absurd (part_or_faulty fault place (sym (front-short (a ∷ []) (omega arith)) ∙ h))
+front-faulty (a ∷ b ∷ []) t fault place h = absurd (part_or_faulty fault place (sym (front-short (a ∷ b ∷ []) (omega arith)) ∙ h))
+front-faulty (a ∷ b ∷ c ∷ []) t fault place h = absurd (part_or_faulty fault place (sym (front-short (a ∷ b ∷ c ∷ []) (omega arith)) ∙ h))
+front-faulty (a ∷ b ∷ c ∷ d ∷ []) t fault place h = absurd (part_or_faulty fault place (sym (front-short (a ∷ b ∷ c ∷ d ∷ []) (omega arith)) ∙ h))
+front-faulty (a ∷ b ∷ c ∷ d ∷ f ∷ r) t fault place h =
+    let n = from_be_bytes w32 (a ∷ b ∷ c ∷ d ∷ []) in
+    front-judged (a ∷ b ∷ c ∷ d ∷ f ∷ (r ++ t)) (omega arith)
+    ∙ judged-faulty n f r t fault place (sym (front-judged (a ∷ b ∷ c ∷ d ∷ f ∷ r) (omega arith)) ∙ h)

@@ -1,8 +1,9 @@
-ghost use Rattle.std.specs.Prelude.{◌≡◌, [], ◌++◌, OnOk, OnErr, IsOkUnless};
+ghost use Rattle.std.specs.Prelude.{◌≡◌, ◌<◌, [], ◌++◌, OnOk, OnErr, IfErr, IsOkUnless};
 ghost use Rattle.channel_frames.specs.Frames.{front, Judges, Reads};
+ghost use Rattle.channel_frames.specs.Streams.{frames, left};
 
 use crate::fault::FrameFault;
-use crate::framing::{FLUSHER, HEADER, LONGEST, PLAIN};
+use crate::framing::{COMPRESSED, FLUSHER, HEADER, LONGEST, PLAIN};
 use std::alloc::Global;
 use std::marker::Model;
 
@@ -46,8 +47,8 @@ impl Deframer {
         Ok(())
     }
 
-    /// The data of the frame in front, which is taken, or None where no whole frame is there yet. NotBuilt where no
-    /// frame can be in front: then, as without memory, nothing is taken.
+    /// The data of the frame in front, which is taken, or None where no whole frame is there yet. F1 to F4 where no
+    /// frame can be in front: then, as without memory, nothing is taken, so the next call answers the same.
     pub fn next(&mut self, alloc: Global) -> Result<Option<Vec<u8>>, FrameFault>
         ensures { Reads (λ body. body.items) (front self.old) result self.old self.new }
     {
@@ -59,6 +60,26 @@ impl Deframer {
         self.start += HEADER + length + 1;
         self.forget_taken();
         Ok(Some(body))
+    }
+
+    /// Says whether the stream may end here. F5 where bytes of a frame that is begun are left behind the whole frames.
+    /// Where a fault stands there, it is `next` that tells it.
+    pub fn finish(&self) -> Result<(), FrameFault>
+        ensures ends { OnOk result (left (frames self.now).1 ≡ 0) }
+        ensures cut { IfErr result (λ e. (0 < left (frames self.now).1) × (e ≡ FrameFault.F5 (left (frames self.now).1))) }
+    {
+        let mut rest = &self.stored[self.start..];
+        'frames: loop {
+            match body_length(rest) {
+                Ok(Some(length)) => rest = &rest[HEADER + length + 1..],
+                Ok(None) => break,
+                Err(_) => return Ok(()),
+            }
+        }
+        if rest.is_empty() {
+            return Ok(());
+        }
+        Err(FrameFault::F5(rest.len() as u64))
     }
 
     // Moves what waits to the front once that is no longer than what was taken: so each byte fed is moved at most once
@@ -83,16 +104,23 @@ fn body_length(waiting: &[u8]) -> Result<Option<usize>, FrameFault>
         return Ok(None);
     }
     let length = u32::from_be_bytes([waiting[0], waiting[1], waiting[2], waiting[3]]) as usize;
+    if length > LONGEST {
+        return Err(FrameFault::F1(length as u64));
+    }
     let flag = waiting[4];
-    if length > LONGEST || flag != PLAIN {
-        return Err(FrameFault::NotBuilt);
+    if flag == COMPRESSED {
+        return Err(FrameFault::F2);
+    }
+    if flag != PLAIN {
+        return Err(FrameFault::F3(flag));
     }
     let rest = &waiting[HEADER..];
     if rest.len() <= length {
         return Ok(None);
     }
-    if rest[length] != FLUSHER {
-        return Err(FrameFault::NotBuilt);
+    let last = rest[length];
+    if last != FLUSHER {
+        return Err(FrameFault::F4(last));
     }
     Ok(Some(length))
 }

@@ -1,5 +1,5 @@
-ghost use Rattle.std.specs.Prelude.{◌≡◌, ◌≤◌, ◌++◌, length, OnOk, OnErr, IsOkUnless};
-ghost use Rattle.channel_frames.specs.Frames.{frame_of};
+ghost use Rattle.std.specs.Prelude.{◌≡◌, ◌≤◌, ◌++◌, length, OnOk, OnErr, IfErr};
+ghost use Rattle.channel_frames.specs.Frames.{frame_of, Refuses};
 
 use crate::fault::FrameFault;
 
@@ -12,17 +12,23 @@ pub(crate) const HEADER: usize = 5;
 /// The flag of data that is not compressed.
 pub(crate) const PLAIN: u8 = 0;
 
+/// The flag of data that is compressed.
+pub(crate) const COMPRESSED: u8 = 1;
+
 /// The last byte of each frame.
 pub(crate) const FLUSHER: u8 = 0x0a;
 
-/// Appends the frame of this data. Where there is no memory, nothing is appended.
+/// Appends the frame of this data. F1 where the data are longer than [`LONGEST`]. After an error `out` is as it was.
 #[tactic(auto, unfolding(crate::specs::Frames::frame_of))]
 pub fn frame(body: &[u8], out: &mut Vec<u8>) -> Result<(), FrameFault>
-    requires { length body.now ≤ LONGEST }
     ensures ok { OnOk result (out.new.items ≡ out.old.items ++ frame_of body.now) }
+    ensures fits { OnOk result (length body.now ≤ LONGEST) }
     ensures err { OnErr result (out.new.items ≡ out.old.items) }
-    ensures only_memory { IsOkUnless result FrameFault.NoMemory }
+    ensures cause { IfErr result (Refuses (length body.now)) }
 {
+    if body.len() > LONGEST {
+        return Err(FrameFault::F1(body.len() as u64));
+    }
     let [a, b, c, d] = (body.len() as u32).to_be_bytes();
     let header = [a, b, c, d, PLAIN];
     out.reserve(HEADER + body.len() + 1)?;

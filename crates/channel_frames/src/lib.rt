@@ -12,4 +12,8 @@ mod tests;
 pub use deframer::Deframer;
 pub use fault::FrameFault;
 pub use framing::{LONGEST, frame};
-pub use laws::{fronts_of_frames_are_parts, only_frames_are_read, whole_frames_are_read};
+pub use laws::{
+    all_frames_are_read, cutting_does_not_matter, faults_say_what_is_there, faults_stay,
+    frames_are_read_in_order, fronts_of_frames_are_parts, more_bytes_go_on, only_frames_are_read,
+    parts_are_begun_frames, streams_are_frames, whole_frames_are_read,
+};

@@ -1,4 +1,4 @@
-use crate::{Deframer, FrameFault, frame};
+use crate::{Deframer, FrameFault, LONGEST, frame};
 use std::test::Fail;
 
 const DATA: [u8; 8] = [0x12, 0x51, 0x50, 0x11, 0x53, 0x11, 0x51, 0x02];
@@ -17,6 +17,7 @@ fn frames_come_in_any_pieces(rt: HostRuntime) -> Result<(), Fail> {
 
     let mut at_once = Deframer::new(alloc);
     at_once.feed(stream.as_slice())?;
+    at_once.finish()?;
     for _ in 0..2 {
         let body = at_once.next(alloc)?;
         assert!(rt; body.is_some_and(|body| body.as_slice() == DATA.as_slice()));
@@ -35,24 +36,55 @@ fn frames_come_in_any_pieces(rt: HostRuntime) -> Result<(), Fail> {
     Ok(())
 }
 
+// The second answer is the first: after a fault nothing is taken. Where `next` tells a fault, `finish` tells none.
 #[test]
-fn faults_and_parts(rt: HostRuntime) -> Result<(), Fail> {
+fn a_fault_in_front_stays(rt: HostRuntime) -> Result<(), Fail> {
     let alloc = rt.alloc();
-    // A flag that is none, another last byte, a length above the limit.
-    let faults: [&[u8]; 3] = [
-        &[0, 0, 0, 0, 2],
-        &[0, 0, 0, 1, 0, 0, 0x0b],
-        &[4, 0, 0, 1, 0],
+    let faults: [(&[u8], FrameFault); 5] = [
+        (&[4, 0, 0, 1, 0], FrameFault::F1(67_108_865)),
+        (&[0xff, 0xff, 0xff, 0xff, 1], FrameFault::F1(4_294_967_295)),
+        (&[0, 0, 0, 1, 1], FrameFault::F2),
+        (&[0, 0, 0, 0, 2], FrameFault::F3(2)),
+        (&[0, 0, 0, 1, 0, 0, 0x0b], FrameFault::F4(0x0b)),
     ];
-    for bytes in faults {
+    for (bytes, fault) in faults {
         let mut deframer = Deframer::new(alloc);
         deframer.feed(bytes)?;
         for _ in 0..2 {
-            assert!(rt; matches!(deframer.next(alloc), Err(FrameFault::NotBuilt)));
+            assert!(rt; deframer.next(alloc).is_err_and(|told| told == fault));
         }
+        deframer.finish()?;
     }
+    Ok(())
+}
+
+#[test]
+fn a_stream_may_end_behind_a_frame(rt: HostRuntime) -> Result<(), Fail> {
+    let alloc = rt.alloc();
     let mut deframer = Deframer::new(alloc);
+    deframer.finish()?;
     deframer.feed(&[0, 0, 0, 8, 0, 0x12])?;
     assert!(rt; deframer.next(alloc)?.is_none());
+    assert!(rt; deframer.finish() == Err(FrameFault::F5(6)));
+
+    // A frame that was not taken is set aside; the four bytes behind it are begun.
+    let mut behind = Deframer::new(alloc);
+    behind.feed(&FRAMED)?;
+    behind.feed(&[0, 0, 0, 1])?;
+    assert!(rt; behind.finish() == Err(FrameFault::F5(4)));
+    Ok(())
+}
+
+#[test]
+fn the_longest_data(rt: HostRuntime) -> Result<(), Fail> {
+    let alloc = rt.alloc();
+    let mut body = Vec::new(alloc);
+    body.resize(LONGEST + 1, 7)?;
+    let mut out = Vec::new(alloc);
+    out.push(9)?;
+    assert!(rt; frame(&body, &mut out) == Err(FrameFault::F1(67_108_865)));
+    assert!(rt; out.as_slice() == [9].as_slice());
+    frame(&body[1..], &mut out)?;
+    assert!(rt; out.len() == LONGEST + 7 && out[1] == 4 && out[4] == 0);
     Ok(())
 }
