@@ -6,39 +6,38 @@ use Rattle.rp_base.specs.declared.plain.Plain.{Plain}
 use Rattle.brine_codec.specs.Spelling.{spelling, spellable}
 use Rattle.brine_codec.proofs.Meets.{spelled_once}
 use Rattle.channel_frames.proofs.Judging.{front-whole}
-use Rattle.channel_frames.specs.Frames.{front, Front, Whole, Reads}
+use Rattle.channel_frames.specs.Frames.{front, frame_of, longest, Front, Whole, Reads}
 use Rattle.channel_frames.specs.declared.fault.FrameFault.{FrameFault}
 use Rattle.channel_frames.specs.declared.fault.FrameFault.TheVariants as frame_fault
-use Rattle.rpyc_cmd.specs.Talk.{IsSendable, CarriesPart, bytes_of}
+use Rattle.rpyc_cmd.specs.Talk.{CarriesPart}
 
--- a message's frame is in front
-pub message_in_front : (p : Plain) → IsSendable p → front (bytes_of p) ≡ Whole (spelling p) []
-message_in_front p h = ap front (sym (append-nil (bytes_of p))) ∙ front-whole (spelling p) [] h.short
+-- a frame is in front
+pub body_in_front : (body : List ℕ) → length body ≤ longest → front (frame_of body) ≡ Whole body []
+body_in_front body h = ap front (sym (append-nil (frame_of body))) ∙ front-whole body [] h
 
-judged_so : {X : Type 0} (view : X → List ℕ) (p : Plain) (old new : List ℕ) (r : Result (Option X) FrameFault) → IsSendable p → old ≡ bytes_of p → Reads view (front old) r old new
-    → Reads view (Whole (spelling p) []) r old new
-judged_so view p old new r h e reads = let F : Front → Type 0 = λ f. Reads view f r old new in subst F (ap front e ∙ message_in_front p h) reads
+judged_so : {X : Type 0} (view : X → List ℕ) (body old new : List ℕ) (r : Result (Option X) FrameFault) → length body ≤ longest → old ≡ frame_of body → Reads view (front old) r old new
+    → Reads view (Whole body []) r old new
+judged_so view body old new r h e reads = let F : Front → Type 0 = λ f. Reads view f r old new in subst F (ap front e ∙ body_in_front body h) reads
 
-pub reads_some : {X : Type 0} (view : X → List ℕ) (p : Plain) (old new : List ℕ) (o : Option X) (x : X) → IsSendable p → old ≡ bytes_of p → o ≡ Some x → Reads view (front old) (Ok o) old new
-    → (view x ≡ spelling p) × (new ≡ [])
-reads_some {X} view p old new o x h e is reads =
-    let F : Option X → Type 0 = λ k. Reads view (Whole (spelling p) []) (Ok k) old new in
-    subst F is (judged_so view p old new (Ok o) h e reads)
+pub reads_some : {X : Type 0} (view : X → List ℕ) (body old new : List ℕ) (o : Option X) (x : X) → length body ≤ longest → old ≡ frame_of body → o ≡ Some x → Reads view (front old) (Ok o) old new
+    → (view x ≡ body) × (new ≡ [])
+reads_some {X} view body old new o x h e is reads =
+    let F : Option X → Type 0 = λ k. Reads view (Whole body []) (Ok k) old new in
+    subst F is (judged_so view body old new (Ok o) h e reads)
 
-pub reads_none : {X : Type 0} (view : X → List ℕ) (p : Plain) (old new : List ℕ) (o : Option X) → IsSendable p → old ≡ bytes_of p → o ≡ None → Reads view (front old) (Ok o) old new → ⊥
-reads_none {X} view p old new o h e is reads =
-    let F : Option X → Type 0 = λ k. Reads view (Whole (spelling p) []) (Ok k) old new in
-    subst F is (judged_so view p old new (Ok o) h e reads)
+pub reads_none : {X : Type 0} (view : X → List ℕ) (body old new : List ℕ) (o : Option X) → length body ≤ longest → old ≡ frame_of body → o ≡ None → Reads view (front old) (Ok o) old new → ⊥
+reads_none {X} view body old new o h e is reads =
+    let F : Option X → Type 0 = λ k. Reads view (Whole body []) (Ok k) old new in
+    subst F is (judged_so view body old new (Ok o) h e reads)
 
-pub reads_fault : (X : Type 0) (view : X → List ℕ) (p : Plain) (old new : List ℕ) (f : FrameFault) → IsSendable p → old ≡ bytes_of p → f ≡ frame_fault.NotBuilt → Reads {X = X} view (front old) (Err f) old new → ⊥
-reads_fault X view p old new f h e is reads =
-    let F : FrameFault → Type 0 = λ k. Reads {X = X} view (Whole (spelling p) []) (Err k) old new in
-    subst F is (judged_so {X = X} view p old new (Err f) h e reads)
+pub reads_fault : (X : Type 0) (view : X → List ℕ) (body old new : List ℕ) (f : FrameFault) → length body ≤ longest → old ≡ frame_of body → Reads {X = X} view (front old) (Err f) old new
+    → f ≡ frame_fault.NoMemory
+reads_fault X view body old new f h e reads = (judged_so {X = X} view body old new (Err f) h e reads).0
 
--- what is spelled so is that message
-pub spelled_same : (p q : Plain) (bytes : List ℕ) → IsSendable p → IsTrue (spellable q) → bytes ≡ spelling p → bytes ≡ spelling q → q ≡ p
-spelled_same p q bytes h k e f =
-    (spelled_once q p [] [] k h.spelled (append-nil (spelling q) ∙ sym f ∙ e ∙ sym (append-nil (spelling p)))).0
+-- what is spelled so is that value
+pub spelled_same : (v w : Plain) (bytes : List ℕ) → IsTrue (spellable v) → IsTrue (spellable w) → bytes ≡ spelling v → bytes ≡ spelling w → w ≡ v
+spelled_same v w bytes h k e f =
+    (spelled_once w v [] [] k h (append-nil (spelling w) ∙ sym f ∙ e ∙ sym (append-nil (spelling v)))).0
 
 -- a front of the bytes that were to be carried
 pub part_of_pieces : (bytes old new : List ℕ) (done : ℕ) → new ≡ old ++ take done bytes → CarriesPart bytes old new

@@ -1,18 +1,18 @@
 -- The exchanges of A's lines, one after the other.
-use Rattle.std.proofs.Common.{◌≡◌, ◌∙◌, ℕ, ◌+◌, ◌<◌, ◌≤◌, ◌++◌, List, [], ◌∷◌, ap, sym, refl, subst, take, drop, length, append_assoc, append-nil, get_or, suc, arith, take-suc, pos}
+use Rattle.std.proofs.Common.{◌≡◌, ◌∙◌, ℕ, ◌+◌, ◌<◌, ◌≤◌, ◌++◌, List, [], ◌∷◌, ap, sym, refl, subst, take, drop, length, append_assoc, append-nil, get_or, suc, arith, take-suc}
 use Rattle.std.proofs.Math.ListN.{drop_of_length-le}
-use Rattle.std.specs.Fmt.{decimal}
+use Rattle.std.specs.Fmt.{signed_decimal}
 use Rattle.std.proofs.Math.Seq.{drop-cons}
 use Rattle.rp_base.specs.declared.ends.Side.{Side}
 use Rattle.rp_base.specs.declared.ends.Side.TheVariants as side
-use Rattle.rp_base.specs.declared.plain.Plain.{Plain}
+use Rattle.message_core.specs.declared.message.Message.{Message}
 use Rattle.rpyc_cmd.specs.Messages.{asks}
 use Rattle.rpyc_cmd.specs.declared.messages.Question.TheVariants as question
 use Rattle.rpyc_cmd.specs.declared.scripts.Binding.{Binding}
 use Rattle.rpyc_cmd.specs.Talk.{exchange, stream, sent_by, bytes_of, Carries, CarriesFront, CarriesPart, items_from, closing, talk, printed, value_of}
 use Rattle.rpyc_cmd.proofs.Traffic.{carries_then, carries_none, carries_a, front_then, front_more, front_a}
 
-pub stream-append : (xs ys : List (Side × Plain)) → stream (xs ++ ys) ≡ stream xs ++ stream ys
+pub stream-append : (xs ys : List (Side × Message)) → stream (xs ++ ys) ≡ stream xs ++ stream ys
 stream-append [] ys = refl
 stream-append (m ∷ xs) ys = ap (λ ms. sent_by m.0 (bytes_of m.1) ++ ms) (stream-append xs ys) ∙ sym (append_assoc (sent_by m.0 (bytes_of m.1)) (stream xs) (stream ys))
 
@@ -68,13 +68,13 @@ going_ends bindings letters index ab ab1 ba ba1 h going =
 pub printed-append : (bindings : List Binding) (xs ys : List ℕ) → printed bindings (xs ++ ys) ≡ printed bindings xs ++ printed bindings ys
 printed-append bindings [] ys = refl
 printed-append bindings (x ∷ xs) ys =
-    ap (λ ms. (decimal (value_of bindings x) ++ 10 ∷ []) ++ ms) (printed-append bindings xs ys) ∙ sym (append_assoc (decimal (value_of bindings x) ++ 10 ∷ []) (printed bindings xs) (printed bindings ys))
+    ap (λ ms. (signed_decimal (value_of bindings x) ++ 10 ∷ []) ++ ms) (printed-append bindings xs ys) ∙ sym (append_assoc (signed_decimal (value_of bindings x) ++ 10 ∷ []) (printed bindings xs) (printed bindings ys))
 
 pub printed_more : (bindings : List Binding) (letters : List ℕ) (index : ℕ) (old mid new : List ℕ) → index < length letters → mid ≡ old ++ printed bindings (take index letters)
-    → new ≡ mid ++ (decimal (value_of bindings (get_or letters index 0)) ++ 10 ∷ []) → new ≡ old ++ printed bindings (take (index + 1) letters)
+    → new ≡ mid ++ (signed_decimal (value_of bindings (get_or letters index 0)) ++ 10 ∷ []) → new ≡ old ++ printed bindings (take (index + 1) letters)
 printed_more bindings letters index old mid new h e f =
     let after : suc index ≡ index + 1 = omega arith in
-    let line = decimal (value_of bindings (get_or letters index 0)) ++ 10 ∷ [] in
+    let line = signed_decimal (value_of bindings (get_or letters index 0)) ++ 10 ∷ [] in
     let lines : printed bindings (take (index + 1) letters) ≡ printed bindings (take index letters) ++ line =
     ap (λ n. printed bindings (take n letters)) (sym after) ∙ ap (printed bindings) (take-suc letters index 0 h)
     ∙ printed-append bindings (take index letters) (get_or letters index 0 ∷ []) ∙ ap (λ ms. printed bindings (take index letters) ++ ms) (append-nil line) in
@@ -126,10 +126,10 @@ talk_whole bindings letters ab ab1 ab2 ab3 ba ba1 ba2 ba3 h k m =
     (carries_then (stream (exchange bindings 1 question.GetNamespace)) rest ab1 ab2 ab3 ba1 ba2 ba3 k m))
 
 -- the closing message
-pub closing_carried : (seq : ℕ) (ab ab1 ba : List ℕ) → ab1 ≡ ab ++ bytes_of (asks (pos seq) question.Close) → Carries (stream (closing seq)) ab ab1 ba ba
+pub closing_carried : (seq : ℕ) (ab ab1 ba : List ℕ) → ab1 ≡ ab ++ bytes_of (asks seq question.Close) → Carries (stream (closing seq)) ab ab1 ba ba
 closing_carried seq ab ab1 ba e =
     let F : List (Side × ℕ) → Type 0 = λ s. Carries s ab ab1 ba ba in
-    subst F (sym (append-nil (sent_by side.A (bytes_of (asks (pos seq) question.Close))))) (carries_a (bytes_of (asks (pos seq) question.Close)) ab ab1 ba e)
+    subst F (sym (append-nil (sent_by side.A (bytes_of (asks seq question.Close))))) (carries_a (bytes_of (asks seq question.Close)) ab ab1 ba e)
 
-pub closing_part : (seq : ℕ) (ab ab1 ba : List ℕ) → CarriesPart (bytes_of (asks (pos seq) question.Close)) ab ab1 → CarriesFront (stream (closing seq)) ab ab1 ba ba
-closing_part seq ab ab1 ba h = front_more (sent_by side.A (bytes_of (asks (pos seq) question.Close))) [] ab ab1 ba ba (front_a (bytes_of (asks (pos seq) question.Close)) ab ab1 ba h)
+pub closing_part : (seq : ℕ) (ab ab1 ba : List ℕ) → CarriesPart (bytes_of (asks seq question.Close)) ab ab1 → CarriesFront (stream (closing seq)) ab ab1 ba ba
+closing_part seq ab ab1 ba h = front_more (sent_by side.A (bytes_of (asks seq question.Close))) [] ab ab1 ba ba (front_a (bytes_of (asks seq question.Close)) ab ab1 ba h)

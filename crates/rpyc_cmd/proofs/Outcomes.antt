@@ -1,6 +1,6 @@
 -- From what the parts of the program say to what a whole run does.
-use Rattle.std.proofs.Common.{◌≡◌, ℕ, ◌-◌, ◌<◌, ◌≤◌, List, [], ◌∷◌, Option, Some, None, Bool, true, false, sym, refl, subst, inl, inr, All, length, get_or, suc, arith, cond, reverse, find, unwrap_or, option_map, ◌==◌, string_bytes}
-use Rattle.std.proofs.lemmas.List.{get_or-reverse, length-reverse}
+use Rattle.std.proofs.Common.{◌≡◌, ◌∙◌, ap, pos, ℕ, ◌-◌, ◌<◌, ◌≤◌, List, [], ◌∷◌, Option, Some, None, Bool, true, false, sym, refl, subst, inl, inr, All, length, get_or, suc, arith, cond, reverse, find, unwrap_or, option_map, ◌==◌, string_bytes}
+use Rattle.std.proofs.lemmas.List.{get_or-reverse, length-reverse, length-map}
 use Rattle.wire_io.specs.Devices.{Rose, Wrote, IsPart}
 use Rattle.rpyc_cmd.specs.declared.decide.Decided.{Decided}
 use Rattle.rpyc_cmd.specs.declared.decide.Stop.{Stop}
@@ -10,7 +10,7 @@ use Rattle.rpyc_cmd.specs.declared.status.Status.{Status}
 use Rattle.rpyc_cmd.specs.declared.status.Status.TheVariants as status
 use Rattle.rpyc_cmd.specs.Deciding.{IfRefused, IfNoMemory, IsDecided, Finished, after_fault}
 use Rattle.rpyc_cmd.specs.Outcome.{Held, Holds, Unbegun, IsRefusal, Outside, Scripts, AreAccepted, Decides, Ends}
-use Rattle.rpyc_cmd.specs.Scripts.{IsBinding, AsksFor, Binds, IsFirstUnbound}
+use Rattle.rpyc_cmd.specs.Scripts.{IsBinding, IsNumber, AsksFor, Binds, IsFirstUnbound, lines_of, onto_first, question_line, longest_text}
 use Rattle.rpyc_cmd.specs.Report.{script_line}
 use Rattle.rpyc_cmd.specs.Words.{IsPair}
 use Rattle.rpyc_cmd.specs.Talk.{AreAnswered, value_of}
@@ -36,17 +36,32 @@ reversed_all P xs h = λ k d l.
     let within : k < length xs = omega (arith, l, length-reverse xs) in
     subst P (sym (get_or-reverse xs k d within)) (h (length xs - 1 - k) d (omega arith))
 
-small_value : (o : Option Binding) → ((b : Binding) → o ≡ Some b → IsBinding b) → unwrap_or (option_map (λ b. b.number) o) 0 ≤ 159
-small_value None h = omega arith
-small_value (Some b) h = (h b refl).1
+number_of_binding : (o : Option Binding) → ((b : Binding) → o ≡ Some b → IsBinding b) → IsNumber (unwrap_or (option_map (λ b. b.number) o) (pos 0))
+number_of_binding None h = (0, refl, omega arith)
+number_of_binding (Some b) h = (h b refl).1
 
-pub bound_small : (bindings : List Binding) (letter : ℕ) → All IsBinding bindings → value_of bindings letter ≤ 159
-bound_small bindings letter h =
-    small_value (find (λ b. b.letter == letter) (reverse bindings)) (λ b. found_in IsBinding (λ b. b.letter == letter) (reverse bindings) b (reversed_all IsBinding bindings h))
+pub bound_number : (bindings : List Binding) (letter : ℕ) → All IsBinding bindings → IsNumber (value_of bindings letter)
+bound_number bindings letter h =
+    number_of_binding (find (λ b. b.letter == letter) (reverse bindings)) (λ b. found_in IsBinding (λ b. b.letter == letter) (reverse bindings) b (reversed_all IsBinding bindings h))
+
+line_more : (t : Bool) (c : ℕ) (lines : List (List ℕ)) (n : ℕ) → length lines ≤ n → length (cond t ([] ∷ lines) (onto_first c lines)) ≤ suc n
+line_more true c lines n h = omega arith
+line_more false c [] n h = omega arith
+line_more false c (line ∷ lines) n h = omega (arith, h)
+
+-- a text has no more lines than bytes
+few_lines : (text : List ℕ) → length (lines_of text) ≤ length text
+few_lines [] = omega arith
+few_lines (c ∷ text) = line_more (c == 10) c (lines_of text) (length text) (few_lines text)
+
+few_letters : (text letters : List ℕ) → AsksFor text letters → length letters ≤ longest_text
+few_letters text letters h =
+    let same : length (lines_of text) ≡ length letters = ap length h.spelled ∙ length-map letters question_line in
+    omega (arith, same, few_lines text, h.short)
 
 pub are_answered : (text_a text_b letters : List ℕ) (bindings : List Binding) → AreAccepted text_a text_b letters bindings → AreAnswered bindings letters
 are_answered text_a text_b letters bindings h =
-    (λ k d l. (h.asks.lower_case k d l, h.bound k d l, bound_small bindings (get_or letters k d) h.binds.in_range), h.asks.few)
+    (λ k d l. (h.asks.lower_case k d l, h.bound k d l, bound_number bindings (get_or letters k d) h.binds.in_range), few_letters text_a letters h.asks)
 
 -- what a run decides on is what the program decides on
 pub run_decides : (decided : Status) (words : List (List ℕ)) (old new : Outside) (s : Scripts words old.held) (letters : List ℕ) (bindings : List Binding) (text : List ℕ)

@@ -1,5 +1,5 @@
 use Rattle.std.proofs.Common.{◌≡◌, ◌∙◌, ◌+◌, ◌++◌, ◌∷◌, [], ap, subst, List, get_or, arith, string_bytes}
-use Rattle.std.specs.Fmt.{decimal}
+use Rattle.std.specs.Fmt.{signed_decimal}
 use Rattle.rpyc_cmd.specs.declared.messages.Question.TheVariants as question
 use Rattle.rpyc_cmd.specs.declared.scripts.Binding.{Binding}
 use Rattle.rpyc_cmd.specs.Talk.{exchange, stream, items_from, Carries, CarriesFront, value_of}
@@ -30,7 +30,7 @@ loop-index-preserved g c =
           (g.W.Wire.carried c.args.ba.now) (g.W.Wire.carried c.loop-index.ba) (g.W.Wire.carried c.print_item.new.ba) c.loop-index-test.true i.0
           (subst F (ap (λ v. v.items) i.3) h.carried),
       printed_more bindings c.args.letters.now index (string_bytes c.args.a.now.output) (string_bytes c.loop-index.a.output) (string_bytes c.print_item.new.a.output) c.loop-index-test.true i.1
-          (let G : List Binding → Type 0 = λ bs. string_bytes c.print_item.new.a.output ≡ string_bytes c.loop-index.a.output ++ (decimal (value_of bs (get_or c.args.letters.now index 0)) ++ 10 ∷ []) in
+          (let G : List Binding → Type 0 = λ bs. string_bytes c.print_item.new.a.output ≡ string_bytes c.loop-index.a.output ++ (signed_decimal (value_of bs (get_or c.args.letters.now index 0)) ++ 10 ∷ []) in
           subst G (ap (λ v. v.items) i.3) h.printed),
       h.idle,
       h.kept ∙ i.3,
