@@ -1,3 +1,4 @@
 pub mod Causes
 pub mod Dividing
+pub mod Examples
 pub mod Judging
