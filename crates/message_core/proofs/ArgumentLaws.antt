@@ -1,5 +1,5 @@
 -- Where no argument has a reference, most handlers have no object.
-use Rattle.std.proofs.Common.{◌≡◌, Bool, true, false, List, [], ◌∷◌, map, refl}
+use Rattle.std.proofs.Common.{◌≡◌, false, List, [], ◌∷◌, map, refl}
 use Rattle.rp_base.specs.declared.handlers.Handler.{Handler}
 use Rattle.rp_base.specs.declared.handlers.Handler.TheVariants as handler
 use Rattle.rp_base.specs.declared.plain.Plain.{Plain}
