@@ -1,3 +1,4 @@
+pub mod Arguments
 pub mod Judging
 pub mod Messages
 pub mod PeerNames

@@ -2,7 +2,7 @@
 //! that each handler takes, and the faults that a peer's bytes can show.
 #![tactic(auto)]
 
-//mod arguments;
+mod arguments;
 mod faults;
 mod laws;
 mod message;
@@ -10,7 +10,7 @@ mod reading;
 #[cfg(test)]
 mod tests;
 
-//pub use arguments::check_args;
+pub use arguments::check_args;
 pub use faults::{MsgFault, PeerFault, PeerKind};
 pub use laws::{messages_are_read_back, values_are_one_message};
 pub use message::{Message, spell};
