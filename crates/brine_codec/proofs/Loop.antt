@@ -1,5 +1,5 @@
 -- Reading items one after the other, as a loop does.
-use Rattle.std.proofs.Common.{◌≡◌, ℕ, suc, ◌-◌, ◌+◌, ◌≤◌, ◌<◌, zero, List, [], ◌∷◌, ◌++◌, Result, Ok, Err, refl, sym, ap, ◌∙◌, append_assoc, arith}
+use Rattle.std.proofs.Common.{◌≡◌, ℕ, suc, ◌-◌, ◌+◌, ◌≤◌, ◌<◌, zero, List, [], ◌∷◌, ◌++◌, Ok, Err, refl, sym, ap, ◌∙◌, append_assoc, arith}
 use Rattle.std.proofs.lemmas.List.{append-nil}
 use Rattle.rp_base.specs.declared.plain.Plain.{Plain}
 use Rattle.brine_codec.specs.declared.ends.Stop.{Stop}
@@ -7,7 +7,7 @@ use Rattle.brine_codec.specs.declared.ends.Stop.TheVariants as stop
 use Rattle.rp_base.specs.declared.plain.Plain.TheVariants as plain
 use Rattle.brine_codec.specs.declared.tag.Size.{Size}
 use Rattle.brine_codec.specs.declared.ends.BrineKind.TheVariants as kinds
-use Rattle.brine_codec.specs.Reading.{◌>>=◌, Read, Fault, Fails, size_at, items_at, tuple_within, value_at}
+use Rattle.brine_codec.specs.Reading.{◌>>=◌, Read, Fails, size_at, items_at, tuple_within, value_at}
 
 -- what was read before, and what is still read
 abbrev pub with_front : List Plain → Read (List Plain) → Read (List Plain)

@@ -1,11 +1,10 @@
 -- The reader finds what is spelled, and what is spelled is found.
-use Rattle.std.proofs.Common.{◌≡◌, ℕ, zero, suc, ◌+◌, ◌<◌, ◌≤◌, ◌^◌, max, Bool, true, false, cond, ltb, ◌&&◌, List, [], ◌∷◌, ◌++◌, length, map, take, drop, Option, Some, None, Result, Ok, Err, refl, sym, ap, subst, ◌∙◌, append_assoc, arith, inl, inr, ℤ, pos, negsuc}
+use Rattle.std.proofs.Common.{◌≡◌, ℕ, zero, suc, ◌<◌, ◌≤◌, ◌^◌, max, Bool, true, false, cond, ltb, ◌&&◌, List, [], ◌∷◌, ◌++◌, length, map, Option, Some, None, Result, Ok, Err, refl, sym, ap, subst, ◌∙◌, append_assoc, arith, ℤ, pos, negsuc}
 use Rattle.std.specs.List.{flat_map, AllByRecursion}
 use Rattle.std.specs.Int.{w32, from_be_bytes}
 use Rattle.std.specs.Str.{is_utf8}
 use Rattle.std.specs.Fmt.{signed_decimal}
-use Rattle.std.proofs.lemmas.Bool.{ltb-true, ltb-false, lt-ltb, le-ltb, cases_lt}
-use Rattle.std.proofs.lemmas.List.{append-nil, take_at, drop_at, take-append-drop, length-append, length-take}
+use Rattle.std.proofs.lemmas.Bool.{ltb-true, ltb-false, lt-ltb, le-ltb}
 use Rattle.rp_base.specs.declared.plain.Plain.{Plain}
 use Rattle.rp_base.specs.declared.plain.Plain.TheVariants as plain
 use Rattle.rp_base.specs.PlainValues.{plain_depth}
@@ -18,8 +17,8 @@ use Rattle.brine_codec.specs.declared.tag.Size.{Size}
 use Rattle.brine_codec.specs.declared.tag.Size.TheVariants as sizes
 use Rattle.brine_codec.specs.declared.ends.BrineKind.{BrineKind}
 use Rattle.brine_codec.specs.declared.ends.BrineKind.TheVariants as kinds
-use Rattle.brine_codec.specs.Spelling.{IsBytes, spelling, spellable, all_true, is_size, is_small_int, int_tag, int_spelling, length_spelling, bytes_spelling, count_spelling}
-use Rattle.brine_codec.specs.Reading.{◌>>=◌, Read, Fault, tag_at, size_at, first_bytes, bytes_at, int_of_value, int_where_wide, int_of_text, int_or_fault, int_at, text_by, text_at, items_at, value_by, value_in, tuple_within, value_at}
+use Rattle.brine_codec.specs.Spelling.{IsBytes, spelling, spellable, all_true, is_size, is_small_int, int_tag, int_spelling, count_spelling}
+use Rattle.brine_codec.specs.Reading.{◌>>=◌, Read, Fault, tag_at, size_at, first_bytes, bytes_at, int_of_value, int_of_text, int_or_fault, int_at, text_by, text_at, items_at, value_by, value_in, tuple_within, value_at}
 use Rattle.brine_codec.proofs.Tags.{Means, IsSize, tag_means, int_again}
 use Rattle.brine_codec.proofs.Sizes.{done, ok_is, bind_ok, kept, passed, bytes_behind, size_takes, first_take, first_again, bytes_take, bytes_are_again, count_again}
 use Rattle.brine_codec.proofs.Values.{by_cases, both, joined, tuple_parts, spelling_tuple, spellable_tuple, greatest_within, each_within}

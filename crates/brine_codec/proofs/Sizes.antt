@@ -1,7 +1,7 @@
 -- Lengths and counts, and byte strings: what is read was spelled, and what was spelled is read.
 use Rattle.std.proofs.Common.{◌≡◌, ℕ, zero, suc, ◌+◌, ◌<◌, ◌≤◌, ◌^◌, Bool, true, false, cond, ltb, List, [], ◌∷◌, ◌++◌, length, get_or, take, drop, Result, Ok, Err, refl, sym, ap, subst, ◌∙◌, append_assoc, arith, inl, inr}
 use Rattle.std.specs.Int.{w32, to_be_bytes, from_be_bytes}
-use Rattle.std.proofs.lemmas.Bool.{ltb-true, ltb-false, lt-ltb, le-ltb, cases_lt, ne_eqb}
+use Rattle.std.proofs.lemmas.Bool.{ltb-false, lt-ltb, le-ltb, cases_lt, ne_eqb}
 use Rattle.std.proofs.lemmas.List.{take_at, drop_at, take-append-drop, length-append, length-take}
 use Rattle.std.proofs.lemmas.Nat.{be_bytes_4, from_be_bytes-to_be_bytes_4}
 use Rattle.brine_codec.specs.declared.tag.Tag.{Tag}
@@ -9,7 +9,7 @@ use Rattle.brine_codec.specs.declared.tag.Tag.TheVariants as tags
 use Rattle.brine_codec.specs.declared.tag.Size.{Size}
 use Rattle.brine_codec.specs.declared.tag.Size.TheVariants as sizes
 use Rattle.brine_codec.specs.declared.ends.BrineKind.TheVariants as kinds
-use Rattle.brine_codec.specs.Spelling.{IsBytes, size_spelling, length_spelling, count_spelling, bytes_spelling}
+use Rattle.brine_codec.specs.Spelling.{IsBytes, size_spelling, length_spelling, bytes_spelling}
 use Rattle.brine_codec.specs.Reading.{◌>>=◌, Read, Fault, tag_at, size_at, first_bytes, bytes_at}
 use Rattle.brine_codec.proofs.Tags.{IsSize, bytes_again, tuple_again}
 
@@ -124,9 +124,9 @@ size_again kind empty base n none some byte four high =
     elim (cases_lt n 5) [
       | inl few ↦ few_again kind empty base n none some few
       | inr many ↦ elim (cases_lt n 256) [
-          | inl less ↦ record { tag = base + 5; size = sizes.Byte; field = n ∷ []; parts = size_byte empty base n many less; means = byte; again = λ left rest. byte_again n left rest many }
-          | inr more ↦ record { tag = base + 6; size = sizes.FourBytes; field = to_be_bytes w32 n; parts = size_four empty base n more; means = four; again = λ left rest. four_again n left rest more high }
-        ]
+        | inl less ↦ record { tag = base + 5; size = sizes.Byte; field = n ∷ []; parts = size_byte empty base n many less; means = byte; again = λ left rest. byte_again n left rest many }
+        | inr more ↦ record { tag = base + 6; size = sizes.FourBytes; field = to_be_bytes w32 n; parts = size_four empty base n more; means = four; again = λ left rest. four_again n left rest more high }
+      ]
     ]
 
 pub length_again : (n : ℕ) → n < 2 ^ 32 → SizeAgain (λ size. tags.Bytes size) 1 9 n

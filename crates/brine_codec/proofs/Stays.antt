@@ -1,5 +1,5 @@
 -- What reading finds stays where bytes are added behind: a value, and each fault other than a cut.
-use Rattle.std.proofs.Common.{◌≡◌, ℕ, zero, suc, ◌+◌, ◌≤◌, Bool, true, false, cond, ltb, List, [], ◌∷◌, ◌++◌, length, take, drop, Option, Some, None, Result, Ok, Err, refl, sym, ap, subst, ◌∙◌, append_assoc, arith, ℤ}
+use Rattle.std.proofs.Common.{◌≡◌, ℕ, zero, suc, ◌+◌, ◌≤◌, Bool, true, false, cond, ltb, List, [], ◌∷◌, ◌++◌, length, take, drop, Option, Some, None, Ok, Err, refl, sym, ap, subst, ◌∙◌, append_assoc, arith, ℤ}
 use Rattle.std.specs.Str.{is_utf8}
 use Rattle.std.specs.Int.{w32, from_be_bytes}
 use Rattle.std.proofs.lemmas.Bool.{ltb-false}
@@ -14,7 +14,7 @@ use Rattle.brine_codec.specs.declared.tag.Size.TheVariants as sizes
 use Rattle.brine_codec.specs.declared.ends.BrineKind.{BrineKind}
 use Rattle.brine_codec.specs.declared.ends.BrineKind.TheVariants as kinds
 use Rattle.brine_codec.specs.Spelling.{is_small_int}
-use Rattle.brine_codec.specs.Reading.{◌>>=◌, Read, Fault, tag_at, size_at, first_bytes, bytes_at, int_of_value, int_of_text, int_or_fault, int_at, text_by, text_at, items_at, value_by, value_in, tuple_within, value_at}
+use Rattle.brine_codec.specs.Reading.{◌>>=◌, Read, tag_at, size_at, first_bytes, bytes_at, int_of_value, int_of_text, int_or_fault, int_at, text_by, text_at, items_at, value_by, value_in, tuple_within, value_at}
 use Rattle.brine_codec.proofs.Sizes.{first_again}
 
 -- a cut has nothing left, and any other fault is the same in front of more
@@ -168,7 +168,7 @@ tuple_stays (suc n) size left bytes more =
     stays_then more (size_at 5 size left bytes) (size_at 5 size (left + length more) (bytes ++ more)) (λ count. items_at (value_at n) count.0 count.1 >>= λ items. Ok (plain.Tuple items.0, items.1))
     (λ count. items_at (value_at n) count.0 count.1 >>= λ items. Ok (plain.Tuple items.0, items.1)) (size_stays 5 size left bytes more)
     (λ count rest. stays_then more (items_at (value_at n) count rest) (items_at (value_at n) count (rest ++ more)) (λ items. Ok (plain.Tuple items.0, items.1)) (λ items. Ok (plain.Tuple items.0, items.1))
-        (items_stay (value_at n) (in_stays (tuple_within n) (tuple_stays n)) count rest more) (λ items end. refl))
+    (items_stay (value_at n) (in_stays (tuple_within n) (tuple_stays n)) count rest more) (λ items end. refl))
 
 pub value_stays : (levels : ℕ) (bytes more : List ℕ) → Stays more (value_at levels bytes) (value_at levels (bytes ++ more))
 value_stays levels bytes more = in_stays (tuple_within levels) (tuple_stays levels) bytes more

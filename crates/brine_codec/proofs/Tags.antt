@@ -1,5 +1,5 @@
 -- What a tag means, both ways.
-use Rattle.std.proofs.Common.{◌≡◌, ℕ, zero, suc, ℤ, pos, negsuc, ◌+◌, ◌-◌, ◌-ℤ◌, ◌<◌, Bool, true, false, cond, eqb, ltb, ◌&&◌, refl, ap, ◌∙◌, arith, lit<, ◌≤◌}
+use Rattle.std.proofs.Common.{◌≡◌, ℕ, zero, suc, ℤ, pos, negsuc, ◌+◌, ◌-◌, ◌-ℤ◌, ◌<◌, Bool, true, false, cond, eqb, ltb, ◌&&◌, refl, ap, ◌∙◌, arith, ◌≤◌}
 use Rattle.std.proofs.lemmas.Int.{ints}
 use Rattle.std.proofs.lemmas.Bool.{ltb-true, ltb-false, eqb-true, ne_eqb, lt-ltb, le-ltb}
 use Rattle.brine_codec.specs.declared.tag.Tag.{Tag}
@@ -89,8 +89,26 @@ int_front b low high =
     let test : (ltb 31 b && ltb b 240) ≡ true = joined _ _ (lt-ltb 31 b low) (lt-ltb b 240 high) in
     let other : (n : ℕ) → n < 32 → eqb b n ≡ false = λ n few. ne_eqb b n (λ e. omega arith) in
     let above : (m n : ℕ) → n < 32 → (ltb m b && ltb b n) ≡ false = λ m n few. not_both (ltb m b) (ltb b n) (le-ltb b n (omega arith)) in
-    rw (other 0 (omega arith), other 1 (omega arith), other 2 (omega arith), other 3 (omega arith), other 4 (omega arith), other 5 (omega arith), other 6 (omega arith), other 8 (omega arith),
-    above 9 14 (omega arith), other 14 (omega arith), other 15 (omega arith), above 15 20 (omega arith), other 20 (omega arith), other 21 (omega arith), other 22 (omega arith), other 23 (omega arith), above 23 28 (omega arith), test) refl
+    rw (
+      other 0 (omega arith),
+      other 1 (omega arith),
+      other 2 (omega arith),
+      other 3 (omega arith),
+      other 4 (omega arith),
+      other 5 (omega arith),
+      other 6 (omega arith),
+      other 8 (omega arith),
+      above 9 14 (omega arith),
+      other 14 (omega arith),
+      other 15 (omega arith),
+      above 15 20 (omega arith),
+      other 20 (omega arith),
+      other 21 (omega arith),
+      other 22 (omega arith),
+      other 23 (omega arith),
+      above 23 28 (omega arith),
+      test,
+    ) refl
   where
     not_both : (x y : Bool) → y ≡ false → (x && y) ≡ false
     not_both true y e = e

@@ -1,5 +1,5 @@
 -- Recursion and induction over plain values.
-use Rattle.std.proofs.Common.{◌≡◌, ℕ, ◌+◌, ◌*◌, ◌^◌, ◌∷◌, ◌++◌, [], List, Bool, true, false, ◌&&◌, ltb, map, length, max, fold, refl, sym, ◌∙◌, ap, subst, ℤ, pos, negsuc, ◌≤◌, ◌<◌, arith}
+use Rattle.std.proofs.Common.{◌≡◌, ℕ, ◌+◌, ◌*◌, ◌^◌, ◌∷◌, ◌++◌, [], List, Bool, true, false, ◌&&◌, map, length, max, fold, refl, sym, ◌∙◌, ap, subst, ℤ, pos, negsuc, ◌≤◌, ◌<◌, arith}
 use Rattle.std.proofs.lemmas.Bool.{ltb-true, lt-ltb}
 use Rattle.std.specs.List.{flat_map, concat, All, AllByRecursion}
 use Rattle.std.proofs.lemmas.List.Elements.{All-from_recursion}

@@ -135,12 +135,7 @@ fn read_text(alloc: Global, left: usize, bytes: &[u8]) -> Result<(Plain, &[u8]),
 }
 
 #[tactic(auto, unfolding(crate::specs::Reading::bytes_at))]
-fn read_bytes(
-    least: u8,
-    size: Size,
-    left: usize,
-    bytes: &[u8],
-) -> Result<(&[u8], &[u8]), Stop>
+fn read_bytes(least: u8, size: Size, left: usize, bytes: &[u8]) -> Result<(&[u8], &[u8]), Stop>
     ensures { Gives (λ x. (x.0.now, x.1.now)) result (bytes_at least size left bytes.now) }
 {
     let (length, rest) = read_size(least, size, left, bytes)?;

@@ -1,5 +1,5 @@
 -- One message through a wire and a deframer.
-use Rattle.std.proofs.Common.{◌≡◌, ◌∙◌, ℕ, ◌+◌, ◌-◌, ◌≤◌, ◌++◌, List, [], length, take, drop, ap, sym, subst, append-nil, append_assoc, Result, Ok, Err, Option, Some, None, IsTrue, arith, OnErr, min, length-take, length-drop}
+use Rattle.std.proofs.Common.{◌≡◌, ◌∙◌, ℕ, ◌+◌, ◌-◌, ◌≤◌, ◌++◌, List, [], length, take, drop, ap, sym, subst, append-nil, append_assoc, Result, Ok, Err, Option, Some, None, IsTrue, arith, refl, OnOk, OnErr, min, length-take, length-drop}
 use Rattle.std.proofs.lemmas.List.{take-append-drop, take-take}
 use Rattle.std.proofs.Math.Seq.{take-add}
 use Rattle.rp_base.specs.declared.plain.Plain.{Plain}
@@ -9,7 +9,13 @@ use Rattle.channel_frames.proofs.Judging.{front-whole}
 use Rattle.channel_frames.specs.Frames.{front, frame_of, longest, Front, Whole, Reads}
 use Rattle.channel_frames.specs.declared.fault.FrameFault.{FrameFault}
 use Rattle.channel_frames.specs.declared.fault.FrameFault.TheVariants as frame_fault
-use Rattle.rpyc_cmd.specs.Talk.{CarriesPart}
+use Rattle.message_core.specs.Messages as messages
+use Rattle.message_core.specs.Messages.{message_value}
+use Rattle.message_core.specs.declared.message.Message.{Message}
+use Rattle.message_core.specs.declared.faults.MsgFault.{MsgFault}
+use Rattle.message_core.specs.declared.faults.MsgFault.TheVariants as fault
+use Rattle.message_core.proofs.ReadingLaws.{one_finding}
+use Rattle.rpyc_cmd.specs.Talk.{IsSendable, CarriesPart}
 
 -- a frame is in front
 pub body_in_front : (body : List ℕ) → length body ≤ longest → front (frame_of body) ≡ Whole body []
@@ -42,6 +48,19 @@ spelled_same v w bytes h k e f =
 -- a front of the bytes that were to be carried
 pub part_of_pieces : (bytes old new : List ℕ) (done : ℕ) → new ≡ old ++ take done bytes → CarriesPart bytes old new
 part_of_pieces bytes old new done e = (take done bytes, drop done bytes, sym (take-append-drop done bytes), e)
+
+-- a value that is a message is read as one, if memory is there
+pub read_fault : (m : Message) (value : Plain) (e : MsgFault) → IsSendable m → value ≡ message_value m → messages.Reads value (Err e) → e ≡ fault.NoMemory
+read_fault m value fault.NoMemory h is reads = refl
+read_fault m value fault.M1 h is reads = let same : Err fault.M1 ≡ Ok m = one_finding value (Err fault.M1) (Ok m) reads (is, h.numbered) in cc
+read_fault m value (fault.M2 n) h is reads = let same : Err (fault.M2 n) ≡ Ok m = one_finding value (Err (fault.M2 n)) (Ok m) reads (is, h.numbered) in cc
+read_fault m value (fault.M3 n) h is reads = let same : Err (fault.M3 n) ≡ Ok m = one_finding value (Err (fault.M3 n)) (Ok m) reads (is, h.numbered) in cc
+read_fault m value (fault.M4 n) h is reads = let same : Err (fault.M4 n) ≡ Ok m = one_finding value (Err (fault.M4 n)) (Ok m) reads (is, h.numbered) in cc
+read_fault m value (fault.M5 n) h is reads = absurd reads
+
+pub on_ok : {T E : Type 0} (r : Result T E) (P : Type 0) → P → OnOk r P
+on_ok (Ok x) P p = p
+on_ok (Err e) P p = tt
 
 pub on_err : {T E : Type 0} (r : Result T E) (P : Type 0) → P → OnErr r P
 on_err (Ok x) P p = tt

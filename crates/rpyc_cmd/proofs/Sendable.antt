@@ -1,5 +1,5 @@
 -- The messages of this stage have a spelling that a frame can hold, and are read as what was said.
-use Rattle.std.proofs.Common.{◌≡◌, ◌∙◌, ℕ, ℤ, ◌+◌, ◌^◌, ◌<◌, ◌≤◌, List, [], ◌∷◌, ◌++◌, length, length-append, ap, sym, refl, pos, Bool, true, false, ◌&&◌, nat_lt, arith, Some, None, cond, subst, eqb}
+use Rattle.std.proofs.Common.{◌≡◌, ◌∙◌, ℕ, ℤ, ◌+◌, ◌^◌, ◌<◌, ◌≤◌, List, [], ◌∷◌, ◌++◌, length, length-append, append-nil, ap, sym, refl, pos, Bool, true, false, ◌&&◌, nat_lt, arith, Some, None, cond, subst, eqb}
 use Rattle.std.specs.Str.{is_utf8, chars}
 use Rattle.std.specs.Fmt.{signed_decimal}
 use Rattle.std.proofs.lemmas.Bool.{lt-ltb, eq-eqb}
@@ -74,13 +74,16 @@ pub sendable_namespace_reply : (n : ℕ) → n < 2 ^ 64 → IsSendable (message.
 unfolding brine_computing
 sendable_namespace_reply n h = record { numbered = h; spelled = ap (λ b. b && true) (small n h); shallow = omega arith; short = short_after 82 (int_spelling (pos n)) _ (number_length (pos n) (small n h)) (omega arith) }
 
+int_last : (a : List ℕ) → length a ≤ 42 → length (17 ∷ 81 ∷ (a ++ [] ++ [])) ≤ 1000
+int_last a h = let same : length (a ++ [] ++ []) ≡ length a = ap length (append-nil (a ++ []) ∙ append-nil a) in omega arith
+
 pub sendable_number_reply : (n : ℕ) (z : ℤ) → n < 2 ^ 64 → IsNumber z → IsSendable (message.Reply n (by_value (plain.Int z)))
 unfolding brine_computing
 sendable_number_reply n z h k = record {
   numbered = h;
   spelled = rw (small n h, number_fits z k) refl;
   shallow = omega arith;
-  short = short_after 82 (int_spelling (pos n)) _ (number_length (pos n) (small n h)) (omega (arith, number_length z (number_fits z k), length-append (int_spelling z) []));
+  short = short_after 82 (int_spelling (pos n)) _ (number_length (pos n) (small n h)) (int_last (int_spelling z) (number_length z (number_fits z k)));
 }
 
 pub asked_is_read : (n : ℕ) (q : Question) → question_of (asks n q) ≡ Some (n, q)

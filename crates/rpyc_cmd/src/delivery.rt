@@ -141,9 +141,16 @@ fn next_message(alloc: Global, inbox: &mut Deframer) -> Result<Message, NoMemory
 {
     match inbox.next(alloc) {
         Ok(Some(body)) => message_in(alloc, &body),
-        Err(FrameFault::NoMemory) => Err(NoMemory),
-        _ => unreachable!(),
+        Ok(None) => unreachable!(),
+        Err(fault) => Err(no_frame(fault)),
     }
+}
+
+/// Where a whole frame is in front, only memory can be missing.
+fn no_frame(_fault: FrameFault) -> NoMemory
+    requires { _fault ≡ FrameFault.NoMemory }
+{
+    NoMemory
 }
 
 /// The message that a frame's data are.
@@ -165,7 +172,13 @@ fn message_of(alloc: Global, value: &Plain) -> Result<Message, NoMemory>
 {
     match read(alloc, value) {
         Ok(message) => Ok(message),
-        Err(MsgFault::NoMemory) => Err(NoMemory),
-        Err(_) => unreachable!(),
+        Err(fault) => Err(no_message(fault)),
     }
+}
+
+/// Where a value is a message, only memory can be missing.
+fn no_message(_fault: MsgFault) -> NoMemory
+    requires { _fault ≡ MsgFault.NoMemory }
+{
+    NoMemory
 }

@@ -125,12 +125,7 @@ fn attribute(alloc: Global, object: &Plain, attribute: &str) -> Result<Plain, No
 }
 
 /// Asks the namespace of this identity for the item of a letter.
-pub fn get_item(
-    alloc: Global,
-    seq: u64,
-    namespace: &Plain,
-    letter: u8,
-) -> Result<Message, NoMemory>
+pub fn get_item(alloc: Global, seq: u64, namespace: &Plain, letter: u8) -> Result<Message, NoMemory>
     requires { letter < 128 }
     ensures { IfOk result (λ m. m ≡ messages.Request seq handlers.CallAttr (arguments root namespace.now (question.GetItem letter))) }
 {

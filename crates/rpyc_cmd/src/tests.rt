@@ -103,70 +103,101 @@ fn the_first_pair_and_its_frames(rt: HostRuntime) -> Result<(), Fail> {
     Ok(())
 }
 
+/// Two texts, the status of their run, and what it writes.
+type Run = (&'static [u8], &'static [u8], Status, &'static str);
+
+const TWO: &[u8] = b"print(conn.namespace[\"y\"])\nprint(conn.namespace[\"x\"])";
+
+const GREATEST: &[u8] = b"y = 170141183460469231731687303715884105727\nx = 160\n";
+
+const TOO_GREAT: &[u8] = b"x = 5\nx = 170141183460469231731687303715884105728\n";
+
 #[test]
 fn texts_and_their_reports(rt: HostRuntime) -> Result<(), Fail> {
     let alloc = rt.alloc();
-    check(
-        &rt,
-        alloc,
-        b"",
-        b"",
-        Status::Done,
-        "B 0\nA 0\nend done\nunits 2\ntables A 0 B 2\n",
-    )?;
-    let two = b"print(conn.namespace[\"y\"])\nprint(conn.namespace[\"x\"])";
-    check(
-        &rt,
-        alloc,
-        two,
-        b"x = 0\ny = 159\nx = 10\n",
-        Status::Done,
-        "B 0\nA 7\n159\n10\nend done\nunits 24\ntables A 0 B 2\n",
-    )?;
-    check(
-        &rt,
-        alloc,
-        b"print(1)\n",
-        B,
-        Status::Script,
-        "rpyc: a.py line 1 rule NotYet\n",
-    )?;
-    check(
-        &rt,
-        alloc,
-        b"print(1)\n",
-        b"x = 05\n",
-        Status::Script,
-        "rpyc: a.py line 1 rule NotYet\n",
-    )?;
-    check(
-        &rt,
-        alloc,
-        b"print(conn.namespace[\"z\"])\n",
-        b"x = 5\nx = 160\n",
-        Status::Script,
-        "rpyc: b.py line 2 rule NotYet\n",
-    )?;
-    check(
-        &rt,
-        alloc,
-        b"print(conn.namespace[\"x\"])\nprint(conn.namespace[\"z\"])\n",
-        B,
-        Status::Script,
-        "rpyc: a.py line 2 rule NotYet\n",
-    )?;
-    let mut many = Vec::new(alloc);
-    for _ in 0..100 {
-        many.extend_from_slice(A)?;
+    let runs: [Run; 7] = [
+        (
+            b"",
+            b"",
+            Status::Done,
+            "B 0\nA 0\nend done\nunits 2\ntables A 0 B 2\n",
+        ),
+        (
+            TWO,
+            b"x = 0\ny = 159\nx = 10\n",
+            Status::Done,
+            "B 0\nA 7\n159\n10\nend done\nunits 24\ntables A 0 B 2\n",
+        ),
+        (
+            TWO,
+            GREATEST,
+            Status::Done,
+            "B 0\nA 44\n170141183460469231731687303715884105727\n160\nend done\nunits 22\ntables A 0 B 2\n",
+        ),
+        (
+            b"print(1)\n",
+            B,
+            Status::Script,
+            "rpyc: a.py line 1 rule NotYet\n",
+        ),
+        (
+            b"print(1)\n",
+            b"x = 05\n",
+            Status::Script,
+            "rpyc: a.py line 1 rule NotYet\n",
+        ),
+        (
+            b"print(conn.namespace[\"z\"])\n",
+            TOO_GREAT,
+            Status::Script,
+            "rpyc: b.py line 2 rule NotYet\n",
+        ),
+        (
+            TWO,
+            b"y = 1\n",
+            Status::Script,
+            "rpyc: a.py line 2 rule NotYet\n",
+        ),
+    ];
+    for (a, b, status, text) in runs {
+        check(&rt, alloc, a, b, status, text)?;
     }
-    many.extend_from_slice(b"\n")?;
+    Ok(())
+}
+
+/// So many times the same bytes.
+fn repeated(alloc: Global, bytes: &[u8], times: usize) -> Result<Vec<u8>, AllocError> {
+    let mut all = Vec::new(alloc);
+    for _ in 0..times {
+        all.extend_from_slice(bytes)?;
+    }
+    Ok(all)
+}
+
+#[test]
+fn long_texts(rt: HostRuntime) -> Result<(), Fail> {
+    let alloc = rt.alloc();
+    let many = repeated(alloc, A, 101)?;
+    let mut devices = make_devices(alloc, &many, B)?;
+    let ended = run(alloc, &["pair", "a.py", "b.py"], &mut devices)?;
+    assert_eq!(rt; ended, Status::Done);
+    let longest = repeated(alloc, b"x = 123456789012345678901234567\n", 32_768)?;
     check(
         &rt,
         alloc,
-        &many,
-        b"no\n",
+        b"",
+        &longest,
+        Status::Done,
+        "B 0\nA 0\nend done\nunits 65538\ntables A 0 B 2\n",
+    )?;
+    let longer = repeated(alloc, b"x = 123456789012345678901234567\n", 40_000)?;
+    check(
+        &rt,
+        alloc,
+        b"",
+        &longer,
         Status::Script,
-        "rpyc: a.py line 101 rule NotYet\n",
+        "rpyc: b.py line 32769 rule NotYet\n",
     )?;
     Ok(())
 }

@@ -1,4 +1,4 @@
-use Rattle.std.proofs.Common.{◌≡◌, ◌<◌, ◌∙◌, refl, arith, ◌-◌}
+use Rattle.std.proofs.Common.{arith}
 use Rattle.std.proofs.lemmas.Result.{err_from_is_err_and}
 use Rattle.brine_codec.specs.Reading.{value_at}
 use Rattle.brine_codec.proofs.Loop.{goes_on, ends_so, is_done, no_levels, tuple_stops, tuple_stops_within, tuple_is}

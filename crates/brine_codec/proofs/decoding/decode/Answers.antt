@@ -1,4 +1,4 @@
-use Rattle.std.proofs.Common.{◌≡◌, sym, ap, subst, Err, List, length, Result, []}
+use Rattle.std.proofs.Common.{sym, ap, Err, length}
 use Rattle.std.proofs.lemmas.Bool.{eqb-true, eqb-false}
 use Rattle.std.proofs.lemmas.List.{nil_from_length}
 use Rattle.brine_codec.proofs.Whole.{all_found, stopped, trailing, refuses}

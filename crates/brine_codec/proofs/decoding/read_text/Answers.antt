@@ -1,4 +1,4 @@
-use Rattle.std.proofs.Common.{◌≡◌, sym, ap, ◌∙◌, ◌≡◌}
+use Rattle.std.proofs.Common.{◌≡◌, sym, ◌∙◌, ◌≡◌}
 use Rattle.brine_codec.proofs.Utf8.{text_is, text_is_none}
 use Rattle.brine_codec.proofs.decoding.read_text.Goals as goal
 

@@ -1,15 +1,10 @@
-use Rattle.std.proofs.Common.{rules, ◌≡◌, ◌≤◌, ℕ, List, [], ◌++◌, IfOk, OnOk, OnErr, IsErrOf, IsTrue, ◌+◌, ◌-◌, ◌*◌, ◌<◌, length, ◌/◌, ◌%◌, Bool, true, false, nat_eq, nat_lt, ◌∷◌, slice_index_or, slice_set, bit_and, bit_or, Fits, w8, w32, w64, Bor, MutBor}
-use Rattle.message_core.specs.declared.message.Message.{Message}
-use Rattle.wire_io.specs.Devices.{Rose}
-use Rattle.brine_codec.specs.Spelling.{spelling}
-use Rattle.message_core.specs.Messages.{message_value}
-use Rattle.rpyc_cmd.specs.Talk.{IsSendable, CarriesPart, bytes_of}
+use Rattle.std.proofs.Common.{◌∙◌, sym}
+use Rattle.message_core.proofs.ReadingLaws.{one_message}
+use Rattle.rpyc_cmd.proofs.Delivering.{read_fault}
 use Rattle.rpyc_cmd.proofs.delivery.message_of.Goals as goal
 
--- src/delivery.rt:169:19
-pub unreachable-requires : goal.unreachable-requires
-unreachable-requires c = ?
+pub no_message-requires : goal.no_message-requires
+no_message-requires c = read_fault c.requires.0 c.args.value.now c.in-Err.fault c.requires.1 c.requires.2 c.in-Err.ensures
 
--- src/delivery.rt:162:1
 pub returns-in-Ok : goal.returns-in-Ok
-returns-in-Ok c = ?
+returns-in-Ok c = λ message sendable is. one_message c.in-Ok.message message c.in-Ok.ensures.1 sendable.numbered (sym c.in-Ok.ensures.0 ∙ is)

@@ -2,7 +2,7 @@ use Rattle.std.proofs.Common.{◌≡◌, ◌∙◌, ◌+◌, ◌++◌, ap, sym, 
 use Rattle.std.proofs.Math.Seq.{take-length}
 use Rattle.rpyc_cmd.specs.declared.messages.Question.TheVariants as question
 use Rattle.rpyc_cmd.specs.declared.scripts.Binding.{Binding}
-use Rattle.rpyc_cmd.specs.Talk.{exchange, stream, items_from, closing, talk, printed, Carries, CarriesFront}
+use Rattle.rpyc_cmd.specs.Talk.{exchange, stream, items_from, closing, talk, printed, AreAnswered, Carries, CarriesFront}
 use Rattle.rpyc_cmd.proofs.Delivering.{on_err}
 use Rattle.rpyc_cmd.proofs.Items.{talk_cut_first, talk_cut_second, talk_cut_later, talk_whole, closing_carried, closing_part}
 use Rattle.rpyc_cmd.proofs.Traffic.{carries_then, front_more, front_then}
@@ -77,3 +77,9 @@ returns-clause-carried g c =
     talk_whole bindings letters (g.W.Wire.carried c.args.ab.now) (g.W.Wire.carried c.ask_root.new.ab) (g.W.Wire.carried c.ask_namespace.new.ab) (g.W.Wire.carried c.close.new.ab) (g.W.Wire.carried c.args.ba.now) (g.W.Wire.carried c.ask_root.new.ba) (g.W.Wire.carried c.ask_namespace.new.ba) (g.W.Wire.carried c.print_items.new.ba) c.in_ok-object.ensures.carried met
     (carries_then (stream (items_from bindings 2 letters)) (stream (closing (2 + length letters))) (g.W.Wire.carried c.ask_namespace.new.ab) (g.W.Wire.carried c.print_items.new.ab) (g.W.Wire.carried c.close.new.ab) (g.W.Wire.carried c.ask_namespace.new.ba) (g.W.Wire.carried c.print_items.new.ba) (g.W.Wire.carried c.print_items.new.ba) asked
     (closing_carried (2 + length letters) (g.W.Wire.carried c.print_items.new.ab) (g.W.Wire.carried c.close.new.ab) (g.W.Wire.carried c.print_items.new.ba) c.in_ok-close.ensures.carried))
+
+pub print_items-requires-clause-answered : goal.print_items-requires-clause-answered
+print_items-requires-clause-answered g c =
+    let still : c.ask_namespace.new.b.bindings.items ≡ c.args.b.now.bindings.items = ap (λ v. v.items) (c.ask_namespace.ensures.kept.1 ∙ c.ask_root.ensures.kept.1) in
+    let F : List Binding → Type 0 = λ bs. AreAnswered bs c.args.letters.now in
+    subst F (sym still) c.requires.answered

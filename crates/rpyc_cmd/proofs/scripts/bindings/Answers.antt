@@ -11,10 +11,10 @@ lines-preserved c =
     let some : 0 < length c.lines.rest.now = omega (arith, c.split_line.ensures.shorter) in
     let read = read_binding_gives c.split_line.result.0.now c.in-Some.binding (sym c.in-Some.ensures) in
     let Kept : List Binding → Type 0 = λ xs. (lines_of c.args.text.now ≡ map binding_line xs ++ lines_of c.split_line.result.1.now) × All IsBinding xs
-        × (length c.split_line.result.1.now ≤ length c.args.text.now) × (length c.args.text.now - length c.split_line.result.1.now ≤ longest_text)
-        × (0 < length c.split_line.result.1.now → bytes_in (map binding_line xs) + length c.split_line.result.1.now ≡ length c.args.text.now) in
+    × (length c.split_line.result.1.now ≤ length c.args.text.now) × (length c.args.text.now - length c.split_line.result.1.now ≤ longest_text)
+    × (0 < length c.split_line.result.1.now → bytes_in (map binding_line xs) + length c.split_line.result.1.now ≡ length c.args.text.now) in
     let more : bytes_in (map binding_line (c.lines.bindings.items ++ c.in-Some.binding ∷ [])) ≡ bytes_in (map binding_line c.lines.bindings.items) + (length c.split_line.result.0.now + 1) =
-        bytes_more binding_line c.lines.bindings.items c.in-Some.binding ∙ ap (λ l. bytes_in (map binding_line c.lines.bindings.items) + (length l + 1)) (sym read.1) in
+    bytes_more binding_line c.lines.bindings.items c.in-Some.binding ∙ ap (λ l. bytes_in (map binding_line c.lines.bindings.items) + (length l + 1)) (sym read.1) in
     subst Kept (sym c.in_ok-push.ensures.items) (
       lines_more binding_line (lines_of c.args.text.now) (lines_of c.lines.rest.now) (lines_of c.split_line.result.1.now) c.split_line.result.0.now c.lines.bindings.items c.in-Some.binding h.0 c.split_line.ensures.lines read.1,
       All-push IsBinding c.lines.bindings.items c.in-Some.binding h.1 read.0,
@@ -39,4 +39,3 @@ returns-in_default-clause-refused c = λ line e.
       place = omega (arith, place, c.len-in_default.ensures, c.lines.bindings.ok.0);
       refused = inr (binds_nothing c.split_line.result.0.now c.in_default.ensures);
     }
-
