@@ -32,10 +32,13 @@ fn fits(handler: Handler, args: &Value) -> bool
 fn plain_items_fit(handler: Handler, items: &[Plain]) -> bool
     ensures { result ≡ arguments_fit handler (map value.Plain items.now) }
 {
-    match (handler, items) {
-        (Handler::Ping, [_]) => true,
-        (Handler::Close | Handler::GetRoot, []) => true,
-        (Handler::Inspect, [id]) => is_plain_identity(id),
+    match handler {
+        Handler::Ping => items.len() == 1,
+        Handler::Close | Handler::GetRoot => items.is_empty(),
+        Handler::Inspect => match items {
+            [id] => is_plain_identity(id),
+            _ => false,
+        },
         _ => false,
     }
 }
