@@ -1,5 +1,6 @@
 pub mod Examples
 pub mod Fronts
+pub mod Lengths
 pub mod Loop
 pub mod Meets
 pub mod Sizes

@@ -1,6 +1,6 @@
-ghost use Rattle.std.specs.Prelude.{◌≡◌, ◌≢◌, ◌≤◌, ◌++◌, ◌∷◌, [], List, ℕ, IsTrue, Ok, Err, length};
+ghost use Rattle.std.specs.Prelude.{◌≡◌, ◌≢◌, ◌≤◌, ◌*◌, ◌++◌, ◌∷◌, [], List, ℕ, IsTrue, Ok, Err, length};
 ghost use Rattle.rp_base.specs.declared.plain.Plain.{Plain};
-ghost use Rattle.rp_base.specs.PlainValues.{plain_depth};
+ghost use Rattle.rp_base.specs.PlainValues.{plain_depth, plain_weight};
 ghost use Rattle.brine_codec.specs.declared.ends.BrineFault.{BrineFault};
 ghost use Rattle.brine_codec.specs.declared.ends.BrineKind.TheVariants as kinds;
 ghost use Rattle.brine_codec.specs.Spelling.{IsBytes, spelling, spellable};
@@ -41,4 +41,9 @@ pub fn faults_stay_first()
 pub fn bytes_behind_are_refused()
     ensures { (v : Plain) (b : ℕ) (more : List ℕ) → IsTrue (spellable v) → plain_depth v ≤ 100
         → decoded (spelling v ++ b ∷ more) ≡ Err (record { at = length (spelling v); what = kinds.B9 }) }
+{}
+
+/// A value of weight w is spelled in at most 21 w bytes: an int weighs 2 and takes up to 42.
+pub fn spellings_are_short()
+    ensures { (v : Plain) → IsTrue (spellable v) → length (spelling v) ≤ 21 * plain_weight v }
 {}

@@ -15,5 +15,5 @@ pub use encoding::encode;
 pub use ends::{BrineFault, BrineKind, DecodeEnd};
 pub use laws::{
     bytes_behind_are_refused, cuts_stand_at_the_end, faults_stay_first,
-    fronts_of_spellings_are_cut, one_spelling, only_spellings_are_read, spellings_are_read,
+    fronts_of_spellings_are_cut, one_spelling, only_spellings_are_read, spellings_are_read, spellings_are_short,
 };
