@@ -1,0 +1,7 @@
+pub mod Growing
+pub mod Joining
+pub mod Schedules
+pub mod SharedRun
+pub mod Sides
+pub mod Toy
+pub mod Trees
