@@ -1,3 +1,5 @@
+pub mod CountLaw
 pub mod Examples
+pub mod FreeLaw
 pub mod GrowthLaw
 pub mod Lists

@@ -1,3 +1,5 @@
+pub mod Counts
+pub mod FreeMessages
 pub mod Growing
 pub mod Joining
 pub mod Schedules

@@ -2,5 +2,7 @@
 #![tactic(auto)]
 
 mod growth;
+mod layers;
 
 pub use growth::a_side_grows;
+pub use layers::{free_messages_change_nothing, references_balance};
