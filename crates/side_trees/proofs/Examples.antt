@@ -1,9 +1,12 @@
 -- The definitions computed on the toy language.
-use Rattle.std.proofs.Common.{◌≡◌, List, [], ◌∷◌, ℕ, refl}
+use Rattle.std.proofs.Common.{true, nat_eq, ◌≡◌, List, [], ◌∷◌, ℕ, refl}
 use Rattle.side_trees.specs.Trees.{Return, Spend}
-use Rattle.side_trees.specs.Sides.{Request, Reply, Sends, Shows, Got, Begin, Over, Await, Texting, Serving, OutOfFuel, Beyond, Broken, Half, Going, Failed, half, idling, shown}
+use Rattle.side_trees.specs.Sides.{Message, Request, Reply, Sends, Shows, Got, Begin, Over, Await, Texting, Serving, OutOfFuel, Beyond, Broken, Half, Going, Failed, half, idling, shown}
 use Rattle.side_trees.specs.SharedRun.{Side, A, B, Two, two_parts, Text, Entry, Puts, Begins, Course, Rests, Leaves, Dry, one, wrote, heard, begun}
-use Rattle.side_trees.specs.Toy.{Int, Own, Outcome, Gives, Raises, Plain, Mine, Answers, Faults, Call, Step, BoxedCall, BoxedStep, BoxedMake, Code, Says, Makes, Drains, Lends, Borrows, Asks, Then, Left, toy, cell, cell_list}
+use Rattle.side_trees.specs.FreeMessages.{Packet, Carries, Releases, Released, Pings, Ponged, Closes, Reads, Sweeps, line}
+use Rattle.side_trees.specs.Counts.{exports, proxies}
+use Rattle.side_trees.specs.Numbers.{Numbered, Brings, tally}
+use Rattle.side_trees.specs.Toy.{Int, Own, Outcome, Gives, Raises, Plain, Mine, Yours, Answers, Faults, Call, Step, BoxedCall, BoxedStep, BoxedMake, Code, Says, Makes, Drains, Lends, Borrows, Asks, Then, Left, toy, cell, cell_list}
 
 abbrev zero_done : Outcome
 zero_done = Gives (Int 0)
@@ -133,3 +136,47 @@ unasked = refl
 
 too_early : half toy (idling toy zero_done [] 4) (Begin (Spend (Says 1) (λ o. Return o)) ∷ Begin (Spend calls (λ o. Return o)) ∷ []) ≡ Failed Broken [] 3 (Sends (Request (BoxedCall 2 (Plain 9))) ∷ [])
 too_early = refl
+
+-- B's numbers in the callback inside a callback: the request that it reads first is 0 and the one inside it 1; its own question is 0 too, and its two replies have the numbers of the requests.
+abbrev number : ℕ → Message toy → Numbered toy
+number n m = record { number = n; message = m }
+
+abbrev idle_side : Half toy
+idle_side = idling toy zero_done [] 3
+
+numbers_at_b : (tally toy idle_side (Brings 0 (Reply (Faults 9)) ∷ Brings 1 (Request (BoxedCall 0 (Plain 9))) ∷ Brings 0 (Request (BoxedCall 2 (Plain 9))) ∷ [])).out
+    ≡ number 0 (Reply (Faults 9)) ∷ number 1 (Reply (Faults 9)) ∷ number 0 (Request (BoxedCall 1 (Plain 9))) ∷ []
+numbers_at_b = refl
+
+wrong_number : (tally toy idle_side (Brings 1 (Reply (Faults 9)) ∷ Brings 0 (Request (BoxedCall 2 (Plain 9))) ∷ [])).side
+    ≡ Failed Broken [] 2 (Sends (Request (BoxedCall 1 (Plain 9))) ∷ Shows 2 ∷ [])
+wrong_number = refl
+
+-- A release of two references, a ping and the answer to a release, round a question about a counter, and a question behind the close, which is not read.
+abbrev steps_0 : Packet toy ℕ
+steps_0 = Carries (Request (BoxedStep 0))
+
+free_messages : line toy ℕ (idling toy zero_done (8 ∷ []) 3) (Reads steps_0 ∷ Reads Closes ∷ Sweeps ((4, 1) ∷ []) ∷ Reads Released ∷ Reads Pings ∷ Reads steps_0 ∷ Reads (Releases 0 2) ∷ [])
+    ≡ record {
+      side = Going (Over zero_done) (7 ∷ []) 2 (Sends (Reply (Answers (Plain 7))) ∷ []);
+      out = Releases 4 1 ∷ Ponged ∷ Carries (Reply (Answers (Plain 7))) ∷ Released ∷ [];
+      closed = true;
+    }
+free_messages = refl
+
+-- References to cell 0 that answers give: B gave two, of which A has read one and given it up, and the other is in flight.
+abbrev given : Message toy → List ℕ
+given (Request r) = []
+given (Reply (Faults n)) = []
+given (Reply (Answers (Plain n))) = []
+given (Reply (Answers (Mine k))) = k ∷ []
+given (Reply (Answers (Yours k))) = []
+
+abbrev gives : ℕ → Packet toy ℕ
+gives k = Carries (Reply (Answers (Mine k)))
+
+exported : exports toy nat_eq given 0 (gives 0 ∷ gives 1 ∷ gives 0 ∷ []) (Releases 0 1 ∷ []) ≡ 1
+exported = refl
+
+held : proxies toy nat_eq given 0 (Releases 0 1 ∷ []) (gives 1 ∷ gives 0 ∷ []) ≡ 0
+held = refl

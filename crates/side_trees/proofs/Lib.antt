@@ -3,3 +3,4 @@ pub mod Examples
 pub mod FreeLaw
 pub mod GrowthLaw
 pub mod Lists
+pub mod NumberLaw

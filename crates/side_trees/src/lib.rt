@@ -5,4 +5,4 @@ mod growth;
 mod layers;
 
 pub use growth::a_side_grows;
-pub use layers::{free_messages_change_nothing, references_balance};
+pub use layers::{free_messages_change_nothing, numbers_go_by_place, references_balance};
