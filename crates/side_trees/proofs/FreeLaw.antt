@@ -2,9 +2,9 @@
 use Rattle.std.proofs.Common.{◌≡◌, Bool, true, false, List, [], ◌∷◌, ◌++◌, map, length, take, ℕ, ◌-◌, ◌+◌, refl, sym, ap, ◌∙◌, subst, arith, if◌then◌else◌}
 use Rattle.std.proofs.lemmas.List.{length-append}
 use Rattle.std.proofs.Math.Seq.{take-append_seam}
-use Rattle.side_trees.specs.Sides.{Lang, Message, Event, Got, Begin, Half, Going, Failed, react, half, written, sent}
+use Rattle.side_trees.specs.Sides.{Lang, Message, Event, Got, Begin, Half, Going, Failed, react, half, written, sent, got}
 use Rattle.side_trees.specs.Growing.{Extends}
-use Rattle.side_trees.specs.FreeMessages.{Packet, Carries, Releases, Released, Pings, Ponged, Closes, Happening, Reads, Starts, Sweeps, Shuts, Line, since, carried, talks, answers, reads, line, is_close, read_close, heard_of, conversation, messages, FreeOfCost}
+use Rattle.side_trees.specs.FreeMessages.{Packet, Carries, Releases, Released, Pings, Ponged, Closes, Happening, Reads, Starts, Sweeps, Shuts, Line, since, carried, talks, answers, reads, line, is_close, read_close, heard_of, conversation, messages, packets, FreeOfCost}
 use Rattle.side_trees.proofs.Lists.{sent-extends}
 use Rattle.side_trees.proofs.GrowthLaw.{react-extends}
 
@@ -88,9 +88,33 @@ line-kept L I start (Sweeps rs ∷ es) =
     (h.0, messages-swept L I rs x.out ∙ h.1, h.2)
 line-kept L I start (Shuts ∷ es) = line-kept L I start es
 
+not-closed : (a b : Bool) → (if a then true else b) ≡ false → a ≡ false
+not-closed true b h = cc
+not-closed false b h = refl
+hears-packet : (L : Lang) (I : Type 0) (p : Packet L I) (es : List (Event L)) (ps : List (Packet L I)) → got L es ≡ messages L I ps → got L (heard_of L I p es) ≡ messages L I (p ∷ ps)
+hears-packet L I (Carries m) es ps h = ap (λ l. m ∷ l) h
+hears-packet L I (Releases i n) es ps h = h
+hears-packet L I Released es ps h = h
+hears-packet L I Pings es ps h = h
+hears-packet L I Ponged es ps h = h
+hears-packet L I Closes es ps h = h
+hears-all : (L : Lang) (I : Type 0) (es : List (Happening L I)) → read_close L I es ≡ false → got L (conversation L I es) ≡ messages L I (packets L I es)
+hears-all L I [] h = refl
+hears-all L I (Reads p ∷ es) h =
+    let still : (read_close L I es ≡ false) = not-closed (read_close L I es) (is_close L I p) h in
+    ap (λ b. got L (if b then conversation L I es else heard_of L I p (conversation L I es))) still
+    ∙ hears-packet L I p (conversation L I es) (packets L I es) (hears-all L I es still)
+hears-all L I (Starts t ∷ es) h = hears-all L I es h
+hears-all L I (Sweeps rs ∷ es) h = hears-all L I es h
+hears-all L I (Shuts ∷ es) h = hears-all L I es h
+messages-extend : (L : Lang) (I : Type 0) (new old : List (Packet L I)) → Extends new old → Extends (messages L I new) (messages L I old)
+messages-extend L I new old (more, e) = (messages L I more, ap (messages L I) e ∙ messages-append L I more old)
+
 pub free_of_cost : (L : Lang) (I : Type 0) → FreeOfCost L I
 free_of_cost L I = record {
   sides = λ start es. (line-kept L I start es).0;
   writes = λ start es. (line-kept L I start es).1 ∙ ap (λ s. sent L (written L s)) (line-kept L I start es).0;
   closes = λ start es. (line-kept L I start es).2;
+  hears = hears-all L I;
+  follows = messages-extend L I
 }

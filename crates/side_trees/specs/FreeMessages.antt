@@ -1,7 +1,8 @@
 -- Messages that cost nothing, as a layer over a side's conversation: releases, pings, their answers, and a close.
 -- Lists are newest first.
 use Rattle.std.specs.Prelude.{Bool, true, false, if◌then◌else◌, List, [], ◌∷◌, ◌++◌, map, length, take, ℕ, ◌-◌, ◌≡◌}
-use Rattle.side_trees.specs.Sides.{Lang, TreeOf, Message, Event, Got, Begin, Half, Going, Failed, react, half, written, sent}
+use Rattle.side_trees.specs.Sides.{Lang, TreeOf, Message, Event, Got, Begin, Half, Going, Failed, react, half, written, sent, got}
+use Rattle.side_trees.specs.Growing.{Extends}
 
 -- All that crosses. I are identities. Releases i n gives up n references to i, Released answers a release, and Ponged a ping.
 pub data Packet (L : Lang) (I : Type 0) : Type 0 where
@@ -103,8 +104,19 @@ messages L I (Pings ∷ ps) = messages L I ps
 messages L I (Ponged ∷ ps) = messages L I ps
 messages L I (Closes ∷ ps) = messages L I ps
 
+-- the packets read
+abbrev pub packets : (L : Lang) (I : Type 0) → List (Happening L I) → List (Packet L I)
+packets L I [] = []
+packets L I (Reads p ∷ es) = p ∷ packets L I es
+packets L I (Starts t ∷ es) = packets L I es
+packets L I (Sweeps rs ∷ es) = packets L I es
+packets L I (Shuts ∷ es) = packets L I es
+
 -- What costs nothing changes nothing else: the side is that of its conversation (its state, units, record and what it waits for), and so are the messages that it wrote.
+-- Before a close the conversation has every message that was read, and where packets begin as others do, so do their messages.
 pub record FreeOfCost (L : Lang) (I : Type 0) : Type 0 where
   pub sides : (start : Half L) (es : List (Happening L I)) → (line L I start es).side ≡ half L start (conversation L I es)
   pub writes : (start : Half L) (es : List (Happening L I)) → messages L I (line L I start es).out ≡ sent L (written L (half L start (conversation L I es)))
   pub closes : (start : Half L) (es : List (Happening L I)) → (line L I start es).closed ≡ read_close L I es
+  pub hears : (es : List (Happening L I)) → read_close L I es ≡ false → got L (conversation L I es) ≡ messages L I (packets L I es)
+  pub follows : (new old : List (Packet L I)) → Extends new old → Extends (messages L I new) (messages L I old)
