@@ -6,3 +6,4 @@ pub mod GrowthLaw
 pub mod HeapLaw
 pub mod Lists
 pub mod NumberLaw
+pub mod StackLaw
