@@ -1,0 +1,10 @@
+pub mod Counts
+pub mod FreeMessages
+pub mod Growing
+pub mod Joining
+pub mod Numbers
+pub mod Schedules
+pub mod SharedRun
+pub mod Sides
+pub mod Toy
+pub mod Trees
