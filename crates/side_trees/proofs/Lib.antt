@@ -1,3 +1,4 @@
 pub mod Examples
 pub mod GrowthLaw
 pub mod Lists
+pub mod TreeLaws
