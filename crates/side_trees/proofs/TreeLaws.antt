@@ -1,9 +1,9 @@
 -- Joining trees: bind on its own, and with the trees of one home on the one heap.
-use Rattle.std.proofs.Common.{◌≡◌, refl, ap, sym, ◌∙◌}
+use Rattle.std.proofs.Common.{◌≡◌, refl, ap}
 use Rattle.std.proofs.Math.Path.{fun_ext}
 use Rattle.side_trees.specs.Trees.{Tree, Return, Act, Tell, Stop, Spend, Do, Ask, bind}
 use Rattle.side_trees.specs.Sides.{Lang, TreeOf, Request, Sends, Shows}
-use Rattle.side_trees.specs.SharedRun.{Side, other, Heap, Put, Code2, Own, Cross, Tree2, answer, both}
+use Rattle.side_trees.specs.SharedRun.{Side, Heap, Own, Cross, Tree2, both}
 
 -- a tree and then nothing more is the tree
 pub bind-return : {C S Q A K D : Type 0} (t : Tree C S Q A K D) → bind t (λ a. Return a) ≡ t
@@ -36,5 +36,5 @@ both-bind L H h (Spend c f) k r = ap {B = Tree2 L H} (λ x. Spend (Own h c) x) (
 both-bind L H h (Do o c f) k r = ap {B = Tree2 L H} (λ x. Do (Own h o) (λ a. Own h (c a)) x) (fun_ext (λ a. both-bind L H h (f a) k r))
 both-bind L H h (Ask q c f) k r =
     ap {B = Tree2 L H}
-      (λ (x : L.A → Tree2 L H). Act (λ w. w) (λ w. Tell (record { side = h; what = Sends (Request (L.box_q (H.seen_by h w) q)) }) (Spend (Cross h (L.box_q (H.seen_by h w) q) c) x)))
-      (fun_ext (λ a. both-bind L H h (f a) k r))
+    (λ (x : L.A → Tree2 L H). Act (λ w. w) (λ w. Tell (record { side = h; what = Sends (Request (L.box_q (H.seen_by h w) q)) }) (Spend (Cross h (L.box_q (H.seen_by h w) q) c) x)))
+    (fun_ext (λ a. both-bind L H h (f a) k r))

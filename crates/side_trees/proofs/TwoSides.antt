@@ -1,10 +1,9 @@
 -- Law 2 for every language and every heap: while the one interpreter runs, its continuations are what waits at the two sides in turn.
 use Rattle.std.proofs.Common.{◌≡◌, Bool, true, false, ◌&&◌, List, [], ◌∷◌, ℕ, zero, suc, ◌+◌, refl, sym, ap, ◌∙◌, subst, arith}
 use Rattle.std.proofs.Math.Path.{fun_ext}
-use Rattle.std.specs.Prelude.{⊤}
 use Rattle.side_trees.specs.Trees.{Return, Act, Tell, Stop, Spend, Do, Ask, bind}
-use Rattle.side_trees.specs.Sides.{Lang, TreeOf, Request, Reply, Item, Sends, Shows, Got, Begin, Pending, Over, Await, Task, Texting, Serving, OutOfFuel, Beyond, Half, Going, go, react, half, written}
-use Rattle.side_trees.specs.SharedRun.{Side, A, B, other, Two, part, Heap, Entry, Puts, Begins, Cross, Tree2, answer, both, expand2, run2, wrote, heard, Text, Course, Rests, Leaves, Dry, closes, may_begin, text_if, one_text, one}
+use Rattle.side_trees.specs.Sides.{Lang, TreeOf, Request, Reply, Item, Sends, Shows, Got, Begin, Pending, Over, Await, Task, Texting, Serving, Going, go, react, half, written}
+use Rattle.side_trees.specs.SharedRun.{Side, A, B, other, Two, part, Heap, Entry, Puts, Begins, Tree2, answer, both, run2, wrote, heard, Text, Course, Rests, Leaves, Dry, closes, may_begin, text_if, one_text, one}
 use Rattle.side_trees.specs.Growing.{Extends}
 use Rattle.side_trees.specs.Joining.{Sides, starts, Comes, waits, MayBegin, Causal, CausalAt, Joined, OneIsTwo}
 use Rattle.side_trees.proofs.GrowthLaw.{go-extends}
@@ -149,7 +148,7 @@ crosses : (L : Lang) (H : Heap L) (g : Side) (j : Stack L) (t : TreeOf L) (c : L
 crosses L H g j t c k =
     both-bind L H g t (λ a. Return a) (λ v. rest L H g (Under (after L c k) j) v)
     ∙ ap (λ (r : L.A → Tree2 L H). bind (both L H g t) r)
-      (fun_ext (λ a. ap (λ (r : L.A → Tree2 L H). answer L H g a r) (fun_ext (λ a'. both-bind L H (other g) (L.expand (c a')) k (λ v. rest L H (other g) j v)))))
+    (fun_ext (λ a. ap (λ (r : L.A → Tree2 L H). answer L H g a r) (fun_ext (λ a'. both-bind L H (other g) (L.expand (c a')) k (λ v. rest L H (other g) j v)))))
     ∙ sym (bind-bind (both L H g t) (λ a. answer L H g a (λ a'. both L H (other g) (L.expand (c a')))) (λ a. bind (both L H (other g) (k a)) (λ v. rest L H (other g) j v)))
 
 does : (L : Lang) (H : Heap L) (h : Side) (t : TreeOf L) (c : L.A → L.C) (k : L.A → TreeOf L) (r : L.A → Tree2 L H)
@@ -181,7 +180,7 @@ meets-on L H start f outs u Bottom (Return a) A w talk n m e (own, across, causa
 meets-on L H start f outs u Bottom (Return a) B w talk n m e (own, across, causal) = (m, n, swapped n m u f e, (across, own, causal))
 meets-on L H start f outs u (Under k j) (Return a) h w talk n m e meeting =
     meets-on L H start f outs u j (k (L.read_a (H.seen_by (other h) w) (reply L H h w a))) (other h) w (Puts h (Sends (Reply (reply L H h w a))) ∷ talk) m n
-      (swapped n m u f e) (meets-replies L H start (part (other (home L h (Under k j))) outs) h k j a w talk n m meeting)
+    (swapped n m u f e) (meets-replies L H start (part (other (home L h (Under k j))) outs) h k j a w talk n m meeting)
 meets-on L H start f outs u j (Act g t) h w talk n m e meeting =
     meets-on L H start f outs u j (t (H.seen_by h w)) h (H.changed_by h g w) talk n m e (meets-act L H start (part (other (home L h j)) outs) h j g t w talk n m meeting)
 meets-on L H start f outs u j (Tell o t) h w talk n m e meeting =
@@ -192,26 +191,84 @@ meets-on L H start f outs zero j (Spend c k) h w talk n m e meeting =
     dries-spend L H start f (part (other (home L h j)) outs) h j c k w talk n m (none-left n m f e) meeting
 meets-on L H start f outs (suc u) j (Spend c k) h w talk n m e meeting =
     subst (λ x. Joined L H start f (closes L H (home L h j) outs (run2 L H u x w talk))) (both-bind L H h (L.expand c) k (λ v. rest L H h j v))
-      (meets-on L H start f outs u j (bind (L.expand c) k) h w talk (suc n) m (spent n m u f e) (meets-spends L H start (part (other (home L h j)) outs) h j c k w talk n m meeting))
+    (meets-on L H start f outs u j (bind (L.expand c) k) h w talk (suc n) m (spent n m u f e) (meets-spends L H start (part (other (home L h j)) outs) h j c k w talk n m meeting))
 meets-on L H start f outs zero j (Do o c k) h w talk n m e meeting =
     dries-do L H start f (part (other (home L h j)) outs) h j o c k w talk n m (none-left n m f e) meeting
 meets-on L H start f outs (suc u) j (Do o c k) h w talk n m e meeting =
     subst (λ x. Joined L H start f (closes L H (home L h j) outs (run2 L H u x w talk))) (does L H h (L.expand o) c k (λ v. rest L H h j v))
-      (meets-on L H start f outs u j (bind (L.expand o) (after L c k)) h w talk (suc n) m (spent n m u f e) (meets-does L H start (part (other (home L h j)) outs) h j o c k w talk n m meeting))
+    (meets-on L H start f outs u j (bind (L.expand o) (after L c k)) h w talk (suc n) m (spent n m u f e) (meets-does L H start (part (other (home L h j)) outs) h j o c k w talk n m meeting))
 meets-on L H start f outs zero j (Ask q c k) h w talk n m e meeting =
     let b : L.A = part (other (home L h j)) outs in
     let r : L.Req = request L H h w q in
     dries-spend L H start f b (other h) (Under (after L c k) j) (L.read_q r) (λ a. Return a) w (Puts h (Sends (Request r)) ∷ talk) m n (none-left-across n m f e)
-      (meets-asks L H start b h j q c k w talk n m meeting)
+    (meets-asks L H start b h j q c k w talk n m meeting)
 meets-on L H start f outs (suc u) j (Ask q c k) A w talk n m e meeting =
     let b : L.A = part (other (home L A j)) outs in
     let r : L.Req = request L H A w q in
     subst (λ x. Joined L H start f (closes L H (home L A j) outs (run2 L H u x w (Puts A (Sends (Request r)) ∷ talk)))) (crosses L H B j (L.expand (L.read_q r)) c k)
-      (meets-on L H start f outs u (Under (after L c k) j) (bind (L.expand (L.read_q r)) (λ a. Return a)) B w (Puts A (Sends (Request r)) ∷ talk) (suc m) n (spent-across n m u f e)
-        (meets-spends L H start b B (Under (after L c k) j) (L.read_q r) (λ a. Return a) w (Puts A (Sends (Request r)) ∷ talk) m n (meets-asks L H start b A j q c k w talk n m meeting)))
+    (meets-on L H start f outs u (Under (after L c k) j) (bind (L.expand (L.read_q r)) (λ a. Return a)) B w (Puts A (Sends (Request r)) ∷ talk) (suc m) n (spent-across n m u f e)
+    (meets-spends L H start b B (Under (after L c k) j) (L.read_q r) (λ a. Return a) w (Puts A (Sends (Request r)) ∷ talk) m n (meets-asks L H start b A j q c k w talk n m meeting)))
 meets-on L H start f outs (suc u) j (Ask q c k) B w talk n m e meeting =
     let b : L.A = part (other (home L B j)) outs in
     let r : L.Req = request L H B w q in
     subst (λ x. Joined L H start f (closes L H (home L B j) outs (run2 L H u x w (Puts B (Sends (Request r)) ∷ talk)))) (crosses L H A j (L.expand (L.read_q r)) c k)
-      (meets-on L H start f outs u (Under (after L c k) j) (bind (L.expand (L.read_q r)) (λ a. Return a)) A w (Puts B (Sends (Request r)) ∷ talk) (suc m) n (spent-across n m u f e)
-        (meets-spends L H start b A (Under (after L c k) j) (L.read_q r) (λ a. Return a) w (Puts B (Sends (Request r)) ∷ talk) m n (meets-asks L H start b B j q c k w talk n m meeting)))
+    (meets-on L H start f outs u (Under (after L c k) j) (bind (L.expand (L.read_q r)) (λ a. Return a)) A w (Puts B (Sends (Request r)) ∷ talk) (suc m) n (spent-across n m u f e)
+    (meets-spends L H start b A (Under (after L c k) j) (L.read_q r) (λ a. Return a) w (Puts B (Sends (Request r)) ∷ talk) m n (meets-asks L H start b B j q c k w talk n m meeting)))
+
+-- a text is begun where both sides are idle after texts that go on
+abbrev Rested : (L : Lang) (H : Heap L) → Sides L → Two L.A → H.W → List (Entry L) → ℕ → ℕ → Type 0
+Rested L H start outs w talk n m =
+    Comes L start A n talk (waits L H (Over outs.of_a) A w talk) × Comes L start B m talk (waits L H (Over outs.of_b) B w talk) × CausalAt L start A n m talk
+
+begin-causal : (L : Lang) (H : Heap L) (start : Sides L) (outs : Two L.A) (h : Side) (t : TreeOf L) (w : H.W) (talk : List (Entry L)) (n m : ℕ)
+    → L.goes_on outs.of_a ≡ true → L.goes_on outs.of_b ≡ true → Rested L H start outs w talk n m → CausalAt L start A n m (Begins h t ∷ talk)
+begin-causal L H start outs h t w talk n m a-goes b-goes (own, across, causal) = λ d d'.
+    (causal d d', (ap (written L) (own d), ap (written L) (across d'), subst (MayBegin L) (sym (own d)) a-goes, subst (MayBegin L) (sym (across d')) b-goes))
+
+text-joins : (L : Lang) (H : Heap L) (start : Sides L) (f : ℕ) (outs : Two L.A) (h : Side) (t : TreeOf L) (w : H.W) (u : ℕ) (talk : List (Entry L)) (n m : ℕ)
+    → n + m + u ≡ f → L.goes_on outs.of_a ≡ true → L.goes_on outs.of_b ≡ true → Rested L H start outs w talk n m
+    → Joined L H start f (closes L H h outs (run2 L H u (both L H h t) w (Begins h t ∷ talk)))
+text-joins L H start f outs A t w u talk n m e a-goes b-goes (own, across, causal) =
+    subst (λ x. Joined L H start f (closes L H A outs (run2 L H u x w (Begins A t ∷ talk)))) (bind-return (both L H A t))
+    (meets-on L H start f outs u Bottom t A w (Begins A t ∷ talk) n m e
+    (λ d. ap (λ x. react L x (Begin t)) (own d), across, begin-causal L H start outs A t w talk n m a-goes b-goes (own, across, causal)))
+text-joins L H start f outs B t w u talk n m e a-goes b-goes (own, across, causal) =
+    subst (λ x. Joined L H start f (closes L H B outs (run2 L H u x w (Begins B t ∷ talk)))) (bind-return (both L H B t))
+    (meets-on L H start f outs u Bottom t B w (Begins B t ∷ talk) m n (swapped n m u f e)
+    (λ d. ap (λ x. react L x (Begin t)) (across d), own, begin-causal L H start outs B t w talk n m a-goes b-goes (own, across, causal)))
+
+both-true : (x y : Bool) → (x && y) ≡ true → (x ≡ true) × (y ≡ true)
+both-true true y e = (refl, e)
+both-true false y e = absurd (cc e)
+
+-- the course joins on by a text, whether it may begin or not
+text-if-joins : (L : Lang) (H : Heap L) (start : Sides L) (f : ℕ) (outs : Two L.A) (x : Text L) (w : H.W) (u : ℕ) (talk : List (Entry L)) (may : Bool)
+    → may_begin L outs ≡ may → Joined L H start f (Rests outs w u talk) → Joined L H start f (text_if L H may x outs w u talk)
+text-if-joins L H start f outs x w u talk true goes (n, m, e, rested) =
+    let (a-goes, b-goes) = both-true (L.goes_on outs.of_a) (L.goes_on outs.of_b) goes in
+    text-joins L H start f outs x.side x.tree w u talk n m e a-goes b-goes rested
+text-if-joins L H start f outs x w u talk false goes joined = joined
+
+joins : (L : Lang) (H : Heap L) (start : Sides L) (f : ℕ) (x : Text L) (course : Course L H) → Joined L H start f course → Joined L H start f (one_text L H x course)
+joins L H start f x (Rests outs w u talk) joined = text-if-joins L H start f outs x w u talk (may_begin L outs) refl joined
+joins L H start f x (Leaves k w u talk) joined = joined
+joins L H start f x (Dry w talk) joined = joined
+
+zero-plus : (d : ℕ) → zero + d ≡ d
+zero-plus d = omega arith
+
+none-spent : (u : ℕ) → zero + zero + u ≡ u
+none-spent u = omega arith
+
+begun-joined : (L : Lang) (H : Heap L) (outs : Two L.A) (w : H.W) (f : ℕ) → Joined L H (starts L H outs w) f (Rests outs w f [])
+begun-joined L H outs w f = (
+  zero,
+  zero,
+  none-spent f,
+  (λ d. ap (λ x. starts L H outs w A x) (zero-plus d), λ d. ap (λ x. starts L H outs w B x) (zero-plus d), λ d d'. tt),
+)
+
+-- law 2
+pub one_is_two : (L : Lang) (H : Heap L) → OneIsTwo L H
+one_is_two L H outs w f [] = begun-joined L H outs w f
+one_is_two L H outs w f (x ∷ xs) = joins L H (starts L H outs w) f x (one L H outs w f xs) (one_is_two L H outs w f xs)
