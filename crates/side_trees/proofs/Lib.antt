@@ -1,6 +1,11 @@
+pub mod BindLaw
+pub mod CountLaw
 pub mod Examples
+pub mod FreeLaw
 pub mod GrowthLaw
+pub mod HeapLaw
 pub mod HeapParts
+pub mod HomeTrees
 pub mod Lists
-pub mod TreeLaws
+pub mod NumberLaw
 pub mod TwoSides
