@@ -4,6 +4,9 @@ pub mod Examples
 pub mod FreeLaw
 pub mod GrowthLaw
 pub mod HeapLaw
+pub mod HeapParts
+pub mod HomeTrees
 pub mod Lists
 pub mod NumberLaw
 pub mod StackLaw
+pub mod TwoSides

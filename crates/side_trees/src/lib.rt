@@ -6,7 +6,9 @@
 mod growth;
 mod heaps;
 mod layers;
+mod two_sides;
 
 pub use growth::a_side_grows;
 pub use heaps::{binds_group, changes_of_two_homes_commute};
 pub use layers::{free_messages_change_nothing, numbers_go_by_place, references_balance};
+pub use two_sides::{one_heap, one_is_two};
