@@ -1,3 +1,5 @@
 pub mod Examples
 pub mod GrowthLaw
 pub mod Lists
+pub mod OlderEnds
+pub mod TalkLists
