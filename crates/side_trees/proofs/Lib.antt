@@ -1,4 +1,6 @@
+pub mod EverySchedule
 pub mod Examples
+pub mod Following
 pub mod GrowthLaw
 pub mod Lists
 pub mod OlderEnds

@@ -56,3 +56,7 @@ next-same whole x y zs e f =
 
 pub extends-less : {M : Type 0} (xs : List M) (y : M) (ys : List M) → Extends xs (y ∷ ys) → Extends xs ys
 extends-less xs y ys h = extends-trans xs (y ∷ ys) ys h (extends-one y ys)
+
+pub extends-none : {M : Type 0} (xs : List M) → Extends xs []
+extends-none [] = ([], refl)
+extends-none (x ∷ xs) = let (m, e) = extends-none xs in (x ∷ m, ap (λ l. x ∷ l) e)

@@ -33,7 +33,7 @@ suc-right n k l e = omega arith
 suc-left : (n k l : ℕ) → n ≡ k + l → suc n ≡ suc k + l
 suc-left n k l e = omega arith
 
-events-counted : (L : Lang) (es : List (Event L)) → length es ≡ length (got L es) + begins L es
+pub events-counted : (L : Lang) (es : List (Event L)) → length es ≡ length (got L es) + begins L es
 events-counted L [] = refl
 events-counted L (Got m ∷ es) = suc-left (length es) (length (got L es)) (begins L es) (events-counted L es)
 events-counted L (Begin t ∷ es) = suc-right (length es) (length (got L es)) (begins L es) (events-counted L es)
