@@ -125,7 +125,7 @@ settle-more L d task (NoFuel s w) y (e, f) =
     (extends-trans (written L (settle L task y)) (noted L y) w (settle-extends L task y) e, λ h. subst (λ n. n < d) (sym (settle-units L task y)) (f h))
 
 -- one reaction
-go-extends : (L : Lang) (task : Task L) (u : ℕ) (t : TreeOf L) (s : L.S) (w : List (Item L)) → Extends (written L (go L task u t s w)) w
+pub go-extends : (L : Lang) (task : Task L) (u : ℕ) (t : TreeOf L) (s : L.S) (w : List (Item L)) → Extends (written L (go L task u t s w)) w
 go-extends L task u t s w =
     extends-trans (written L (go L task u t s w)) (noted L (own L u t s w)) w (settle-extends L task (own L u t s w)) (own-extends L u t s w)
 

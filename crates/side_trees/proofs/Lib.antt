@@ -5,3 +5,5 @@ pub mod GrowthLaw
 pub mod Lists
 pub mod OlderEnds
 pub mod TalkLists
+pub mod TreeLaws
+pub mod TwoSides
