@@ -2,6 +2,7 @@ pub mod EverySchedule
 pub mod Examples
 pub mod Following
 pub mod GrowthLaw
+pub mod InTurnLaw
 pub mod Lists
 pub mod OlderEnds
 pub mod TalkLists
