@@ -5,6 +5,7 @@ pub mod GrowthLaw
 pub mod InTurnLaw
 pub mod Lists
 pub mod OlderEnds
+pub mod RestLaw
 pub mod TalkLists
 pub mod TreeLaws
 pub mod TwoSides

@@ -60,3 +60,15 @@ extends-less xs y ys h = extends-trans xs (y ∷ ys) ys h (extends-one y ys)
 pub extends-none : {M : Type 0} (xs : List M) → Extends xs []
 extends-none [] = ([], refl)
 extends-none (x ∷ xs) = let (m, e) = extends-none xs in (x ∷ m, ap (λ l. x ∷ l) e)
+
+-- an older end is all of a list, or there is a next
+pub data Unread {M : Type 0} (whole old : List M) : Type 0 where
+  None : whole ≡ old → Unread whole old
+  More : (m : M) → Extends whole (m ∷ old) → Unread whole old
+
+more-of : {M : Type 0} (whole old : List M) → (m : M) × Extends whole (m ∷ old) → Unread whole old
+more-of whole old (m, h) = More m h
+
+pub unread : {M : Type 0} (whole old : List M) → Extends whole old → Unread whole old
+unread whole old ([], e) = None e
+unread {M} whole old (z ∷ p, e) = more-of whole old (subst (λ l. (y : M) × Extends l (y ∷ old)) (sym e) (next-of z p old))

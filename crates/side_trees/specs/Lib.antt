@@ -1,5 +1,6 @@
 pub mod Growing
 pub mod Joining
+pub mod Resting
 pub mod Schedules
 pub mod SharedRun
 pub mod Sides
