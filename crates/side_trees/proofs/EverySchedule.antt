@@ -1,8 +1,8 @@
 -- Law 3 for every language and every heap, from law 2.
-use Rattle.std.proofs.Common.{◌≡◌, List, [], ◌∷◌, ◌++◌, ℕ, zero, suc, ◌+◌, ◌<◌, ◌≤◌, refl, sym, ap, ◌∙◌, subst, arith}
-use Rattle.std.specs.Prelude.{⊤, ◌-◌}
-use Rattle.side_trees.specs.Sides.{Lang, TreeOf, Message, Item, Event, Got, Begin, Pending, Over, Await, OutOfFuel, Beyond, Broken, Half, Going, Failed, half, written, got, sent}
-use Rattle.side_trees.specs.SharedRun.{Side, A, B, other, Two, part, Heap, Entry, Text, wrote, heard, begun, Course, Rests, Leaves, Dry, one}
+use Rattle.std.proofs.Common.{◌≡◌, List, [], ◌∷◌, ℕ, zero, ◌+◌, ◌≤◌, refl, sym, ap, ◌∙◌, subst, arith}
+use Rattle.std.specs.Prelude.{◌-◌}
+use Rattle.side_trees.specs.Sides.{Lang, Message, Event, Over, Await, OutOfFuel, Beyond, Broken, Half, Going, Failed, half, written, got, sent}
+use Rattle.side_trees.specs.SharedRun.{Side, A, B, other, Two, part, Heap, Entry, Text, wrote, begun, Course, Rests, Leaves, Dry, one}
 use Rattle.side_trees.specs.Growing.{Extends, WithMore}
 use Rattle.side_trees.specs.Joining.{Sides, starts, waits, fails, MayBegin, Causal, CausalAt, Comes, ComesExactly, Joined, OneIsTwo}
 use Rattle.side_trees.specs.Schedules.{Quiet, HasFuel, Reached, Begun, A_reads, B_reads, A_begins, B_begins, Follows, All, Schedules, EndsAt, RunsOutAt, AnyUnits, FewUnits, PairIsOne, OneIsPair}
@@ -106,9 +106,9 @@ any-units : (L : Lang) (H : Heap L) (outs : Two L.A) (w : H.W) (talk : List (Ent
     → ((d d' : ℕ) → Schedules L talk (starts L H outs w A (n + d)) (starts L H outs w B (m + d')) (ea d) (eb d')) → AnyUnits L (starts L H outs w) talk
 any-units L H outs w talk n m ea eb all x y ra rb r = (
   follows-of L (starts L H outs w A x) (starts L H outs w B y) (starts L H outs w A (n + x)) (starts L H outs w B (m + y)) n m talk (ea x) (eb y)
-    (start-more L H outs w A n x) (start-more L H outs w B m y) (all x y) ra rb r,
+      (start-more L H outs w A n x) (start-more L H outs w B m y) (all x y) ra rb r,
   all-of L (starts L H outs w A x) (starts L H outs w B y) (starts L H outs w A (n + x)) (starts L H outs w B (m + y)) n m talk (ea x) (eb y)
-    (start-more L H outs w A n x) (start-more L H outs w B m y) (all x y) ra rb r,
+      (start-more L H outs w A n x) (start-more L H outs w B m y) (all x y) ra rb r,
 )
 
 any-units-at : (L : Lang) (H : Heap L) (outs : Two L.A) (w : H.W) (talk : List (Entry L)) (h : Side) (n m : ℕ) (e e' : ℕ → Half L)
@@ -146,15 +146,15 @@ runs-out-at L start talk B n m e e' p q c i j = λ d.
 pair-is-one : (L : Lang) (H : Heap L) (outs : Two L.A) (w : H.W) (f : ℕ) (course : Course L H) → Joined L H (starts L H outs w) f course → PairIsOne L H (starts L H outs w) f course
 pair-is-one L H outs w f (Rests last v u talk) (n, m, sum, (p, q, c)) =
     let all : EndsAt L (starts L H outs w) talk A n m (waits L H (Over last.of_a) A v talk) (waits L H (Over last.of_b) B v talk) =
-        ends-at L (starts L H outs w) talk A n m (waits L H (Over last.of_a) A v talk) (waits L H (Over last.of_b) B v talk) p q c (λ d. refl) (λ d. refl) in
+    ends-at L (starts L H outs w) talk A n m (waits L H (Over last.of_a) A v talk) (waits L H (Over last.of_b) B v talk) p q c (λ d. refl) (λ d. refl) in
     (n, m, sum, all, any-units-at L H outs w talk A n m (waits L H (Over last.of_a) A v talk) (waits L H (Over last.of_b) B v talk) all)
 pair-is-one L H outs w f (Leaves k v u talk) (h, n, m, p, sum, i, j, c) =
     let all : EndsAt L (starts L H outs w) talk h n m (fails L H (Beyond k) h v talk) (waits L H p (other h) v talk) =
-        ends-at L (starts L H outs w) talk h n m (fails L H (Beyond k) h v talk) (waits L H p (other h) v talk) i j c (λ d. refl) (λ d. refl) in
+    ends-at L (starts L H outs w) talk h n m (fails L H (Beyond k) h v talk) (waits L H p (other h) v talk) i j c (λ d. refl) (λ d. refl) in
     (h, n, m, p, sum, all, any-units-at L H outs w talk h n m (fails L H (Beyond k) h v talk) (waits L H p (other h) v talk) all)
 pair-is-one L H outs w f (Dry v talk) (h, n, m, p, sum, i, j, c) =
     let all : RunsOutAt L (starts L H outs w) talk h n m (fails L H OutOfFuel h v talk zero) (waits L H p (other h) v talk) =
-        runs-out-at L (starts L H outs w) talk h n m (fails L H OutOfFuel h v talk zero) (waits L H p (other h) v talk) i j c refl (λ d. refl) in
+    runs-out-at L (starts L H outs w) talk h n m (fails L H OutOfFuel h v talk zero) (waits L H p (other h) v talk) i j c refl (λ d. refl) in
     (h, n, m, p, sum, all, few-units-at L H outs w talk h n m (fails L H OutOfFuel h v talk zero) (waits L H p (other h) v talk) all)
 
 -- law 3

@@ -1,15 +1,14 @@
 -- Every schedule follows the log of two sides, and one at rest has read all of it.
-use Rattle.std.proofs.Common.{◌≡◌, List, [], ◌∷◌, ◌++◌, ℕ, zero, suc, ◌+◌, ◌<◌, ◌≤◌, refl, sym, ap, ◌∙◌, subst, arith}
-use Rattle.std.specs.Prelude.{length, ⊤, ◌-◌}
-use Rattle.side_trees.specs.Sides.{Lang, TreeOf, Message, Item, Sends, Shows, Event, Got, Begin, Pending, Over, Await, OutOfFuel, Beyond, Broken, Half, Going, Failed, half, written, got, sent}
-use Rattle.side_trees.specs.SharedRun.{Side, A, B, other, Two, Heap, Entry, Puts, Begins, Text, wrote, heard, begun, Course, Rests, Leaves, Dry, one}
-use Rattle.side_trees.specs.Growing.{Extends, WithMore}
-use Rattle.side_trees.specs.Joining.{Sides, starts, waits, fails, MayBegin, Still, Causal, CausalAt, Comes, OneIsTwo}
-use Rattle.side_trees.specs.Schedules.{Quiet, HasFuel, Reached, Begun, A_reads, B_reads, A_begins, B_begins, Follows, All, Schedules, EndsAt, RunsOutAt, AnyUnits, FewUnits, PairIsOne, OneIsPair}
+use Rattle.std.proofs.Common.{◌≡◌, List, [], ◌∷◌, ℕ, suc, ◌+◌, ◌<◌, ◌≤◌, refl, sym, ap, ◌∙◌, subst, arith}
+use Rattle.std.specs.Prelude.{length}
+use Rattle.side_trees.specs.Sides.{Lang, TreeOf, Message, Item, Sends, Shows, Event, Got, Begin, Half, half, written, got, sent}
+use Rattle.side_trees.specs.SharedRun.{Side, A, B, Entry, Puts, Begins, Text, wrote, heard, begun}
+use Rattle.side_trees.specs.Growing.{Extends}
+use Rattle.side_trees.specs.Joining.{Still, Causal}
+use Rattle.side_trees.specs.Schedules.{Quiet, Reached, Begun, A_reads, B_reads, A_begins, B_begins, Follows, All, Schedules}
 use Rattle.side_trees.proofs.Lists.{extends-same, extends-one, extends-trans, sent-extends}
 use Rattle.side_trees.proofs.OlderEnds.{extends-length, longer-extends, extends-equal, next, next-same, extends-less, extends-none}
 use Rattle.side_trees.proofs.TalkLists.{got-extends, begins, texts_of, counts-below, begins-extends, a-hears, b-hears, texts-heard, heard-extends, record-extends, texts-at-a, texts-at-b, events-counted}
-use Rattle.side_trees.proofs.GrowthLaw.{half-more}
 
 -- the log is that of two sides which started as a and b and have read all of it
 pub record Matched (L : Lang) (a b : Half L) (es : List (Entry L)) : Type 0 where
@@ -52,33 +51,41 @@ message-read : (L : Lang) (x : Half L) (mine then theirs : List (Event L)) (m : 
     → got L old ≡ sent L w → begins L old ≤ begins L theirs → length (Got m ∷ old) ≤ length theirs
 message-read L x mine then theirs m w old quiet ext cause hears enough =
     let grown : Extends (written L (half L x mine)) (Sends m ∷ w) =
-        extends-trans (written L (half L x mine)) (written L (half L x then)) (Sends m ∷ w) (record-extends L x mine then ext) cause in
+    extends-trans (written L (half L x mine)) (written L (half L x then)) (Sends m ∷ w) (record-extends L x mine then ext) cause in
     let read : Extends (got L theirs) (m ∷ got L old) =
-        subst (λ l. Extends l (m ∷ got L old)) quiet (
-        subst (λ l. Extends (sent L (written L (half L x mine))) (m ∷ l)) (sym hears) (sent-extends L (written L (half L x mine)) (Sends m ∷ w) grown)) in
+    subst (λ l. Extends l (m ∷ got L old)) quiet (
+    subst (λ l. Extends (sent L (written L (half L x mine))) (m ∷ l)) (sym hears) (sent-extends L (written L (half L x mine)) (Sends m ∷ w) grown)) in
     counts-below L (Got m ∷ old) theirs (extends-length (got L theirs) (m ∷ got L old) read) enough
 
 all-read : (L : Lang) (a b : Half L) (es : List (Entry L)) (ra rb : List (Event L)) → AtRest L a b es ra rb → (old : List (Entry L)) → Extends es old → Causal L a b old
     → Extends ra (heard L A old) × Extends rb (heard L B old)
 all-read L a b es ra rb r [] ext c = (extends-none ra, extends-none rb)
 all-read L a b es ra rb r (Puts A (Sends m) ∷ old) ext (c, k) =
-    let before : Extends ra (heard L A old) × Extends rb (heard L B old) = all-read L a b es ra rb r old (extends-less es (Puts A (Sends m)) old ext) c in
-    (before.0, reaches-b L a b es ra rb r (Puts A (Sends m) ∷ old) ext
-    (message-read L a ra (heard L A old) rb m (wrote L A old) (heard L B old) r.quiet.1 before.0 k (b-hears L old) (enough-b L a b es ra rb r (Puts A (Sends m) ∷ old) ext)))
+    let before : Extends ra (heard L A old) × Extends rb (heard L B old) = all-read L a b es ra rb r old (extends-less es (Puts A (Sends m)) old ext) c in (
+      before.0,
+      reaches-b L a b es ra rb r (Puts A (Sends m) ∷ old) ext
+          (message-read L a ra (heard L A old) rb m (wrote L A old) (heard L B old) r.quiet.1 before.0 k (b-hears L old) (enough-b L a b es ra rb r (Puts A (Sends m) ∷ old) ext)),
+    )
 all-read L a b es ra rb r (Puts A (Shows o) ∷ old) ext (c, k) = all-read L a b es ra rb r old (extends-less es (Puts A (Shows o)) old ext) c
 all-read L a b es ra rb r (Puts B (Sends m) ∷ old) ext (c, k) =
-    let before : Extends ra (heard L A old) × Extends rb (heard L B old) = all-read L a b es ra rb r old (extends-less es (Puts B (Sends m)) old ext) c in
-    (reaches-a L a b es ra rb r (Puts B (Sends m) ∷ old) ext
-    (message-read L b rb (heard L B old) ra m (wrote L B old) (heard L A old) r.quiet.0 before.1 k (a-hears L old) (enough-a L a b es ra rb r (Puts B (Sends m) ∷ old) ext)), before.1)
+    let before : Extends ra (heard L A old) × Extends rb (heard L B old) = all-read L a b es ra rb r old (extends-less es (Puts B (Sends m)) old ext) c in (
+      reaches-a L a b es ra rb r (Puts B (Sends m) ∷ old) ext
+          (message-read L b rb (heard L B old) ra m (wrote L B old) (heard L A old) r.quiet.0 before.1 k (a-hears L old) (enough-a L a b es ra rb r (Puts B (Sends m) ∷ old) ext)),
+      before.1,
+    )
 all-read L a b es ra rb r (Puts B (Shows o) ∷ old) ext (c, k) = all-read L a b es ra rb r old (extends-less es (Puts B (Shows o)) old ext) c
 all-read L a b es ra rb r (Begins A t ∷ old) ext (c, k) =
-    let before : Extends ra (heard L A old) × Extends rb (heard L B old) = all-read L a b es ra rb r old (extends-less es (Begins A t) old ext) c in
-    (reaches-a L a b es ra rb r (Begins A t ∷ old) ext
-    (counts-below L (Begin t ∷ heard L A old) ra (extends-length (got L ra) (got L (heard L A old)) (got-extends L ra (heard L A old) before.0)) (enough-a L a b es ra rb r (Begins A t ∷ old) ext)), before.1)
+    let before : Extends ra (heard L A old) × Extends rb (heard L B old) = all-read L a b es ra rb r old (extends-less es (Begins A t) old ext) c in (
+      reaches-a L a b es ra rb r (Begins A t ∷ old) ext
+          (counts-below L (Begin t ∷ heard L A old) ra (extends-length (got L ra) (got L (heard L A old)) (got-extends L ra (heard L A old) before.0)) (enough-a L a b es ra rb r (Begins A t ∷ old) ext)),
+      before.1,
+    )
 all-read L a b es ra rb r (Begins B t ∷ old) ext (c, k) =
-    let before : Extends ra (heard L A old) × Extends rb (heard L B old) = all-read L a b es ra rb r old (extends-less es (Begins B t) old ext) c in
-    (before.0, reaches-b L a b es ra rb r (Begins B t ∷ old) ext
-    (counts-below L (Begin t ∷ heard L B old) rb (extends-length (got L rb) (got L (heard L B old)) (got-extends L rb (heard L B old) before.1)) (enough-b L a b es ra rb r (Begins B t ∷ old) ext)))
+    let before : Extends ra (heard L A old) × Extends rb (heard L B old) = all-read L a b es ra rb r old (extends-less es (Begins B t) old ext) c in (
+      before.0,
+      reaches-b L a b es ra rb r (Begins B t ∷ old) ext
+          (counts-below L (Begin t ∷ heard L B old) rb (extends-length (got L rb) (got L (heard L B old)) (got-extends L rb (heard L B old) before.1)) (enough-b L a b es ra rb r (Begins B t ∷ old) ext)),
+    )
 
 pub complete : (L : Lang) (a b : Half L) (es : List (Entry L)) (ra rb : List (Event L)) → Causal L a b es → AtRest L a b es ra rb → All L es ra rb
 complete L a b es ra rb c r =
@@ -137,7 +144,7 @@ read-next : (L : Lang) (whole r : List (Event L)) (m : Message L) → Extends wh
     → Extends whole (Got m ∷ r)
 read-next L whole r m ext n h =
     let less : length r < length whole = fewer (length r) (length whole) (length (got L r)) (begins L r) (length (got L whole)) (begins L whole)
-        (events-counted L r) (events-counted L whole) (extends-length (got L whole) (m ∷ got L r) h) n in
+    (events-counted L r) (events-counted L whole) (extends-length (got L whole) (m ∷ got L r) h) n in
     let (e, f) = next whole r ext less in
     next-is L whole r m n h e f
 
@@ -174,15 +181,17 @@ safe L a b es k (B_reads {ra = ra} {rb = rb} m r h) e =
 safe L a b es k (A_begins {xs = xs} {ra = ra} {rb = rb} t r q i j) e =
     let f : Found L a b es A t xs = find L a b es A t xs k.causal e in
     let w : Within L f.old ra rb = safe L a b f.old (matched L a b f.old f.causal f.still) r f.same in
-    let read : All L f.old ra rb = complete L a b f.old ra rb f.causal (at-rest L a b f.old r f.same w q) in
-    (subst (λ l. Extends (heard L A es) (Begin t ∷ l)) (sym read.0) (heard-extends L A es (Begins A t ∷ f.old) f.older),
-    subst (λ l. Extends (heard L B es) l) (sym read.1) (heard-extends L B es (Begins A t ∷ f.old) f.older))
+    let read : All L f.old ra rb = complete L a b f.old ra rb f.causal (at-rest L a b f.old r f.same w q) in (
+      subst (λ l. Extends (heard L A es) (Begin t ∷ l)) (sym read.0) (heard-extends L A es (Begins A t ∷ f.old) f.older),
+      subst (λ l. Extends (heard L B es) l) (sym read.1) (heard-extends L B es (Begins A t ∷ f.old) f.older),
+    )
 safe L a b es k (B_begins {xs = xs} {ra = ra} {rb = rb} t r q i j) e =
     let f : Found L a b es B t xs = find L a b es B t xs k.causal e in
     let w : Within L f.old ra rb = safe L a b f.old (matched L a b f.old f.causal f.still) r f.same in
-    let read : All L f.old ra rb = complete L a b f.old ra rb f.causal (at-rest L a b f.old r f.same w q) in
-    (subst (λ l. Extends (heard L A es) l) (sym read.0) (heard-extends L A es (Begins B t ∷ f.old) f.older),
-    subst (λ l. Extends (heard L B es) (Begin t ∷ l)) (sym read.1) (heard-extends L B es (Begins B t ∷ f.old) f.older))
+    let read : All L f.old ra rb = complete L a b f.old ra rb f.causal (at-rest L a b f.old r f.same w q) in (
+      subst (λ l. Extends (heard L A es) l) (sym read.0) (heard-extends L A es (Begins B t ∷ f.old) f.older),
+      subst (λ l. Extends (heard L B es) (Begin t ∷ l)) (sym read.1) (heard-extends L B es (Begins B t ∷ f.old) f.older),
+    )
 
 -- The log's own order is a schedule.
 sends-next : (L : Lang) (x : Half L) (then old : List (Event L)) (m : Message L) (w : List (Item L)) → Extends (written L (half L x then)) (Sends m ∷ w) → got L old ≡ sent L w

@@ -1,8 +1,8 @@
 -- Every conversation comes to rest: what is waited for, unread or unspent falls with each message that is read.
-use Rattle.std.proofs.Common.{◌≡◌, List, [], ◌∷◌, ◌++◌, ℕ, zero, suc, ◌+◌, ◌*◌, ◌<◌, ◌≤◌, refl, sym, ap, ◌∙◌, subst, arith}
+use Rattle.std.proofs.Common.{◌≡◌, List, [], ◌∷◌, ◌++◌, ℕ, zero, suc, ◌+◌, ◌*◌, ◌≤◌, refl, sym, subst, arith}
 use Rattle.std.specs.Prelude.{length}
 use Rattle.side_trees.specs.Trees.{Return, Act, Tell, Stop, Spend, Do, Ask, bind}
-use Rattle.side_trees.specs.Sides.{Lang, TreeOf, Message, Request, Reply, Item, Sends, Shows, Event, Got, Begin, Pending, Over, Await, Task, Texting, Serving, Half, Going, Failed, go, react, half, idling, written, units, got, sent}
+use Rattle.side_trees.specs.Sides.{Lang, TreeOf, Message, Request, Reply, Item, Shows, Event, Got, Begin, Pending, Over, Await, Task, Texting, Serving, Half, Going, Failed, go, react, half, idling, written, units, got, sent}
 use Rattle.side_trees.specs.SharedRun.{Text}
 use Rattle.side_trees.specs.Growing.{Extends}
 use Rattle.side_trees.specs.Schedules.{Quiet, Reached, Begun, A_reads, B_reads, A_begins, B_begins}

@@ -1,12 +1,10 @@
 -- What a log has for each side, as lists of events: its messages and its texts counted.
-use Rattle.std.proofs.Common.{◌≡◌, List, [], ◌∷◌, ◌++◌, ℕ, zero, suc, ◌+◌, ◌<◌, ◌≤◌, refl, sym, ap, ◌∙◌, subst, arith}
+use Rattle.std.proofs.Common.{◌≡◌, List, [], ◌∷◌, ◌++◌, ℕ, zero, suc, ◌+◌, ◌≤◌, refl, sym, ap, ◌∙◌, subst, arith}
 use Rattle.std.specs.Prelude.{length}
-use Rattle.side_trees.specs.Sides.{Lang, TreeOf, Message, Item, Sends, Shows, Event, Got, Begin, Half, half, written, got, sent}
+use Rattle.side_trees.specs.Sides.{Lang, TreeOf, Message, Sends, Shows, Event, Got, Begin, Half, half, written, got, sent}
 use Rattle.side_trees.specs.SharedRun.{Side, A, B, other, Entry, Puts, Begins, Text, where_same, wrote, heard, begun}
 use Rattle.side_trees.specs.Growing.{Extends}
 use Rattle.side_trees.specs.Schedules.{Reached, Begun, A_reads, B_reads, A_begins, B_begins}
-use Rattle.side_trees.proofs.Lists.{extends-one, extends-trans}
-use Rattle.side_trees.proofs.OlderEnds.{extends-length}
 use Rattle.side_trees.proofs.GrowthLaw.{half-in_turn, half-extends}
 
 got-append : (L : Lang) (xs ys : List (Event L)) → got L (xs ++ ys) ≡ got L xs ++ got L ys
