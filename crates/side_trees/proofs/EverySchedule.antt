@@ -17,7 +17,7 @@ grown-record L d (Failed OutOfFuel s u w) y h = h.0
 grown-record L d (Failed (Beyond k) s u w) y h = subst (λ l. Extends l w) (sym (ap (written L) h)) (extends-same w)
 grown-record L d (Failed Broken s u w) y h = subst (λ l. Extends l w) (sym (ap (written L) h)) (extends-same w)
 
-kept-record : (L : Lang) (d : ℕ) (x y : Half L) → HasFuel L x → WithMore L d x y → written L y ≡ written L x
+pub kept-record : (L : Lang) (d : ℕ) (x y : Half L) → HasFuel L x → WithMore L d x y → written L y ≡ written L x
 kept-record L d (Going p s u w) y f h = ap (written L) h
 kept-record L d (Failed OutOfFuel s u w) y f h = absurd f
 kept-record L d (Failed (Beyond k) s u w) y f h = ap (written L) h
@@ -33,7 +33,7 @@ still-may-begin L d (Going (Await task k) s u w) y i h = absurd i
 still-may-begin L d (Failed x s u w) y i h = absurd i
 
 -- y is x with d more units, over any events
-abbrev More : (L : Lang) → ℕ → Half L → Half L → Type 0
+abbrev pub More : (L : Lang) → ℕ → Half L → Half L → Type 0
 More L d x y = (es : List (Event L)) → WithMore L d (half L x es) (half L y es)
 
 quiet-with-more : (L : Lang) (a b a' b' : Half L) (d d' : ℕ) (ra rb : List (Event L)) → More L d a a' → More L d' b b'
@@ -50,7 +50,7 @@ still-sent L d x y es ms p h =
     extends-trans (sent L (written L (half L y es))) (sent L (written L (half L x es))) ms
     (sent-extends L (written L (half L y es)) (written L (half L x es)) (grown-record L d (half L x es) (half L y es) (p es))) h
 
-reach-more : (L : Lang) (a b a' b' : Half L) (d d' : ℕ) {xs : List (Text L)} {ra rb : List (Event L)} → More L d a a' → More L d' b b'
+pub reach-more : (L : Lang) (a b a' b' : Half L) (d d' : ℕ) {xs : List (Text L)} {ra rb : List (Event L)} → More L d a a' → More L d' b b'
     → Reached L a b xs ra rb → Reached L a' b' xs ra rb
 reach-more L a b a' b' d d' p q Begun = Begun
 reach-more L a b a' b' d d' p q (A_reads {ra = ra} {rb = rb} m r h) = A_reads m (reach-more L a b a' b' d d' p q r) (still-sent L d' b b' rb (m ∷ got L ra) q h)
@@ -74,12 +74,12 @@ follows-with-less L a b a' b' d d' talk ra rb p q (v, w, x, y) = (
   extends-trans (wrote L B talk) (written L (half L b' rb)) (written L (half L b rb)) y (grown-record L d' (half L b rb) (half L b' rb) (q rb)),
 )
 
-follows-of : (L : Lang) (a b a' b' : Half L) (d d' : ℕ) (talk : List (Entry L)) (ea eb : Half L) → More L d a a' → More L d' b b'
+pub follows-of : (L : Lang) (a b a' b' : Half L) (d d' : ℕ) (talk : List (Entry L)) (ea eb : Half L) → More L d a a' → More L d' b b'
     → Schedules L talk a' b' ea eb → (ra rb : List (Event L)) → Reached L a b (begun L talk) ra rb → Follows L a b talk ra rb
 follows-of L a b a' b' d d' talk ea eb p q (o, k, all) ra rb r =
     follows-with-less L a b a' b' d d' talk ra rb p q (all ra rb (reach-more L a b a' b' d d' p q r)).0
 
-all-of : (L : Lang) (a b a' b' : Half L) (d d' : ℕ) (talk : List (Entry L)) (ea eb : Half L) → More L d a a' → More L d' b b'
+pub all-of : (L : Lang) (a b a' b' : Half L) (d d' : ℕ) (talk : List (Entry L)) (ea eb : Half L) → More L d a a' → More L d' b b'
     → Schedules L talk a' b' ea eb → (ra rb : List (Event L)) → Reached L a b (begun L talk) ra rb
     → Quiet L a b ra rb → HasFuel L (half L a ra) → HasFuel L (half L b rb) → All L talk ra rb
 all-of L a b a' b' d d' talk ea eb p q (o, k, all) ra rb r quiet i j =
@@ -89,7 +89,7 @@ all-of L a b a' b' d d' talk ea eb p q (o, k, all) ra rb r quiet i j =
 turned : (n x : ℕ) → n + x ≡ x + n
 turned n x = omega arith
 
-start-more : (L : Lang) (H : Heap L) (outs : Two L.A) (w : H.W) (h : Side) (n x : ℕ) → More L n (starts L H outs w h x) (starts L H outs w h (n + x))
+pub start-more : (L : Lang) (H : Heap L) (outs : Two L.A) (w : H.W) (h : Side) (n x : ℕ) → More L n (starts L H outs w h x) (starts L H outs w h (n + x))
 start-more L H outs w h n x es =
     subst (λ k. WithMore L n (half L (starts L H outs w h x) es) (half L (starts L H outs w h k) es)) (sym (turned n x))
     (half-more L (Over (part h outs)) (H.seen_by h w) x n [] es)
@@ -97,12 +97,12 @@ start-more L H outs w h n x es =
 up-to : (x n : ℕ) → x ≤ n → x + (n - x) ≡ n
 up-to x n h = omega arith
 
-start-up-to : (L : Lang) (H : Heap L) (outs : Two L.A) (w : H.W) (h : Side) (x n : ℕ) → x ≤ n → More L (n - x) (starts L H outs w h x) (starts L H outs w h n)
+pub start-up-to : (L : Lang) (H : Heap L) (outs : Two L.A) (w : H.W) (h : Side) (x n : ℕ) → x ≤ n → More L (n - x) (starts L H outs w h x) (starts L H outs w h n)
 start-up-to L H outs w h x n less es =
     subst (λ k. WithMore L (n - x) (half L (starts L H outs w h x) es) (half L (starts L H outs w h k) es)) (up-to x n less)
     (half-more L (Over (part h outs)) (H.seen_by h w) x (n - x) [] es)
 
-any-units : (L : Lang) (H : Heap L) (outs : Two L.A) (w : H.W) (talk : List (Entry L)) (n m : ℕ) (ea eb : ℕ → Half L)
+pub any-units : (L : Lang) (H : Heap L) (outs : Two L.A) (w : H.W) (talk : List (Entry L)) (n m : ℕ) (ea eb : ℕ → Half L)
     → ((d d' : ℕ) → Schedules L talk (starts L H outs w A (n + d)) (starts L H outs w B (m + d')) (ea d) (eb d')) → AnyUnits L (starts L H outs w) talk
 any-units L H outs w talk n m ea eb all x y ra rb r = (
   follows-of L (starts L H outs w A x) (starts L H outs w B y) (starts L H outs w A (n + x)) (starts L H outs w B (m + y)) n m talk (ea x) (eb y)
@@ -111,7 +111,7 @@ any-units L H outs w talk n m ea eb all x y ra rb r = (
       (start-more L H outs w A n x) (start-more L H outs w B m y) (all x y) ra rb r,
 )
 
-any-units-at : (L : Lang) (H : Heap L) (outs : Two L.A) (w : H.W) (talk : List (Entry L)) (h : Side) (n m : ℕ) (e e' : ℕ → Half L)
+pub any-units-at : (L : Lang) (H : Heap L) (outs : Two L.A) (w : H.W) (talk : List (Entry L)) (h : Side) (n m : ℕ) (e e' : ℕ → Half L)
     → EndsAt L (starts L H outs w) talk h n m e e' → AnyUnits L (starts L H outs w) talk
 any-units-at L H outs w talk A n m e e' all = any-units L H outs w talk n m e e' all
 any-units-at L H outs w talk B n m e e' all = any-units L H outs w talk m n e' e all
@@ -126,7 +126,7 @@ few-units-at L H outs w talk B n m e e' all = λ x y less ra rb r.
     (start-more L H outs w A m x) (start-up-to L H outs w B y n less) (all x) ra rb r
 
 -- where law 2 says how two sides come over the log, every schedule ends so
-ends-at : (L : Lang) (start : Sides L) (talk : List (Entry L)) (h : Side) (n m : ℕ) (e e' : ℕ → Half L)
+pub ends-at : (L : Lang) (start : Sides L) (talk : List (Entry L)) (h : Side) (n m : ℕ) (e e' : ℕ → Half L)
     → Comes L start h n talk e → Comes L start (other h) m talk e' → CausalAt L start h n m talk
     → ((d : ℕ) → written L (e d) ≡ wrote L h talk) → ((d : ℕ) → written L (e' d) ≡ wrote L (other h) talk) → EndsAt L start talk h n m e e'
 ends-at L start talk A n m e e' p q c i j = λ d d'. schedules L talk (start A (n + d)) (start B (m + d')) (e d) (e' d') (c d d') (p d) (q d') (i d) (j d')
@@ -135,7 +135,7 @@ ends-at L start talk B n m e e' p q c i j = λ d d'. schedules L talk (start A (
 none-more : (n : ℕ) → n + zero ≡ n
 none-more n = omega arith
 
-runs-out-at : (L : Lang) (start : Sides L) (talk : List (Entry L)) (h : Side) (n m : ℕ) (e : Half L) (e' : ℕ → Half L)
+pub runs-out-at : (L : Lang) (start : Sides L) (talk : List (Entry L)) (h : Side) (n m : ℕ) (e : Half L) (e' : ℕ → Half L)
     → ComesExactly L start h n talk e → Comes L start (other h) m talk e' → CausalAt L start h n m talk
     → written L e ≡ wrote L h talk → ((d : ℕ) → written L (e' d) ≡ wrote L (other h) talk) → RunsOutAt L start talk h n m e e'
 runs-out-at L start talk A n m e e' p q c i j = λ d.

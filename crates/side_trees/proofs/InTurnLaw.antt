@@ -32,6 +32,18 @@ closes-log L H h outs (Stopped k w u talk) = refl
 closes-log L H h outs (NoFuel w talk) = refl
 closes-log L H h outs (Asked q k w u talk) = absurd q
 
+-- a text that may begin is begun
+if-begun : (L : Lang) (H : Heap L) (b : Bool) (x : Text L) (outs : Two L.A) (w : H.W) (u : ℕ) (talk : List (Entry L)) → b ≡ true
+    → begun L (log_of L H (text_if L H b x outs w u talk)) ≡ x ∷ begun L talk
+if-begun L H true x outs w u talk e =
+    ap (begun L) (closes-log L H x.side outs (run2 L H u (both L H x.side x.tree) w (Begins x.side x.tree ∷ talk)))
+    ∙ run-begins L H u (both L H x.side x.tree) w (Begins x.side x.tree ∷ talk)
+if-begun L H false x outs w u talk e = absurd cc
+
+pub text-begun : (L : Lang) (H : Heap L) (x : Text L) (outs : Two L.A) (w : H.W) (u : ℕ) (talk : List (Entry L)) → may_begin L outs ≡ true
+    → begun L (log_of L H (one_text L H x (Rests outs w u talk))) ≡ x ∷ begun L talk
+text-begun L H x outs w u talk e = if-begun L H (may_begin L outs) x outs w u talk e
+
 -- where another text may begin, all of those given were begun
 abbrev Whole : (L : Lang) (H : Heap L) → List (Text L) → Course L H → Type 0
 Whole L H xs (Rests outs w u talk) = may_begin L outs ≡ true → begun L talk ≡ xs
@@ -52,9 +64,7 @@ never h = absurd cc
 text-if-turned : (L : Lang) (H : Heap L) (b : Bool) (x : Text L) (xs : List (Text L)) (outs : Two L.A) (w : H.W) (u : ℕ) (talk : List (Entry L))
     → may_begin L outs ≡ b → Turned L H xs (Rests outs w u talk) → Turned L H (x ∷ xs) (text_if L H b x outs w u talk)
 text-if-turned L H true x xs outs w u talk e (f, g) =
-    all-of-them L H (x ∷ xs) (text_if L H true x outs w u talk) (
-    ap (begun L) (closes-log L H x.side outs (run2 L H u (both L H x.side x.tree) w (Begins x.side x.tree ∷ talk)))
-    ∙ run-begins L H u (both L H x.side x.tree) w (Begins x.side x.tree ∷ talk) ∙ ap (λ l. x ∷ l) (g e))
+    all-of-them L H (x ∷ xs) (text_if L H true x outs w u talk) (if-begun L H true x outs w u talk refl ∙ ap (λ l. x ∷ l) (g e))
 text-if-turned L H false x xs outs w u talk e (f, g) = (extends-trans (x ∷ xs) xs (begun L talk) (extends-one x xs) f, λ h. never (sym e ∙ h))
 
 text-turned : (L : Lang) (H : Heap L) (x : Text L) (xs : List (Text L)) (course : Course L H) → Turned L H xs course → Turned L H (x ∷ xs) (one_text L H x course)

@@ -1,3 +1,4 @@
+pub mod DrawnUnits
 pub mod EverySchedule
 pub mod Examples
 pub mod Following
@@ -5,6 +6,7 @@ pub mod GrowthLaw
 pub mod InTurnLaw
 pub mod Lists
 pub mod OlderEnds
+pub mod OneInFlight
 pub mod RestLaw
 pub mod TalkLists
 pub mod TreeLaws

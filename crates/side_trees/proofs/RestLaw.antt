@@ -145,10 +145,10 @@ sent-on L x e es ms h =
     extends-trans (sent L (written L (half L x (e ∷ es)))) (sent L (written L (half L x es))) ms
     (sent-extends L (written L (half L x (e ∷ es))) (written L (half L x es)) (record-extends L x (e ∷ es) es (extends-one e es))) h
 
-abbrev Written : (L : Lang) → Half L → Half L → List (Event L) → List (Event L) → Type 0
+abbrev pub Written : (L : Lang) → Half L → Half L → List (Event L) → List (Event L) → Type 0
 Written L a b ra rb = Extends (sent L (written L (half L b rb))) (got L ra) × Extends (sent L (written L (half L a ra))) (got L rb)
 
-read-was-written : (L : Lang) (a b : Half L) {xs : List (Text L)} {ra rb : List (Event L)} → Reached L a b xs ra rb → Written L a b ra rb
+pub read-was-written : (L : Lang) (a b : Half L) {xs : List (Text L)} {ra rb : List (Event L)} → Reached L a b xs ra rb → Written L a b ra rb
 read-was-written L a b Begun = (extends-none (sent L (written L b)), extends-none (sent L (written L a)))
 read-was-written L a b (A_reads {ra = ra} {rb = rb} m r h) = (h, sent-on L a (Got m) ra (got L rb) (read-was-written L a b r).1)
 read-was-written L a b (B_reads {ra = ra} {rb = rb} m r h) = (sent-on L b (Got m) rb (got L ra) (read-was-written L a b r).0, h)

@@ -3,6 +3,7 @@ pub mod Joining
 pub mod Resting
 pub mod Schedules
 pub mod SharedRun
+pub mod SharedUnits
 pub mod Sides
 pub mod Toy
 pub mod Trees
