@@ -9,4 +9,16 @@ pub mod HomeTrees
 pub mod Lists
 pub mod NumberLaw
 pub mod StackLaw
+pub mod DrawnUnits
+pub mod EverySchedule
+pub mod Examples
+pub mod Following
+pub mod GrowthLaw
+pub mod InTurnLaw
+pub mod Lists
+pub mod OlderEnds
+pub mod OneInFlight
+pub mod RestLaw
+pub mod TalkLists
+pub mod TreeLaws
 pub mod TwoSides

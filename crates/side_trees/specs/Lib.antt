@@ -3,8 +3,10 @@ pub mod FreeMessages
 pub mod Growing
 pub mod Joining
 pub mod Numbers
+pub mod Resting
 pub mod Schedules
 pub mod SharedRun
+pub mod SharedUnits
 pub mod Sides
 pub mod Toy
 pub mod Trees
