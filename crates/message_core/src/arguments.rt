@@ -1,8 +1,7 @@
-ghost use Rattle.std.specs.Prelude.{◌≡◌, ◌&&◌, true, map, length, Option};
+ghost use Rattle.std.specs.Prelude.{◌≡◌, map};
 ghost use Rattle.std.specs.List.{list_all};
-ghost use Rattle.std.specs.Option.{option_map};
 ghost use Rattle.rp_base.specs.declared.value.Value.TheVariants as value;
-ghost use Rattle.message_core.specs.Arguments.{items_of, is_tuple, on_items, on_text, is_text, is_int, is_name, is_number, is_triple, is_identity, is_named_pair, is_keyword, are_keywords, is_op_name, beside, special_names, is_count, counts_fit, arguments_fit, fitting, checked};
+ghost use Rattle.message_core.specs.Arguments.{items_of, is_tuple, on_items, is_text, is_name, is_number, is_triple, is_identity, is_keyword, are_keywords, is_op_name, beside, special_names, is_count, arguments_fit, fitting, checked};
 
 use crate::faults::MsgFault;
 use rp_base::{Handler, Plain, Text, Value};
