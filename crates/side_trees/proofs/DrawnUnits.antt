@@ -257,7 +257,7 @@ may-at : (L : Lang) (start : ℕ → Half L) (n : ℕ) (r : List (Event L)) (x :
     → MayBegin L (half L (start (n + d)) r)
 may-at L start n r x d b h i = subst (MayBegin L) (sym (b d h)) (kept-may-begin L d x i)
 
-reads-at : (L : Lang) (start : ℕ → Half L) (n : ℕ) (r : List (Event L)) (x : Half L) (d : ℕ) (ms : List (Message L)) → Bought L start n r x → (IsDry L x → d ≡ zero)
+pub reads-at : (L : Lang) (start : ℕ → Half L) (n : ℕ) (r : List (Event L)) (x : Half L) (d : ℕ) (ms : List (Message L)) → Bought L start n r x → (IsDry L x → d ≡ zero)
     → Extends (sent L (written L x)) ms → Extends (sent L (written L (half L (start (n + d)) r))) ms
 reads-at L start n r x d ms b h i = subst (λ l. Extends (sent L l) ms) (sym (written-a L start n r x d b h)) i
 

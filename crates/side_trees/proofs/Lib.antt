@@ -8,6 +8,7 @@ pub mod Lists
 pub mod OlderEnds
 pub mod OneInFlight
 pub mod RestLaw
+pub mod SharedUnitsLaw
 pub mod TalkLists
 pub mod TreeLaws
 pub mod TwoSides

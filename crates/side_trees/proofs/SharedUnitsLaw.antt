@@ -1,0 +1,307 @@
+-- Two sides that draw their units from one number end as the one interpreter does with that number.
+use Rattle.std.proofs.Common.{◌≡◌, List, [], ◌∷◌, ◌++◌, ℕ, zero, suc, ◌+◌, ◌-◌, ◌<◌, ◌≤◌, Bool, true, false, ◌&&◌, refl, sym, ap, ◌∙◌, subst, arith}
+use Rattle.std.specs.Prelude.{⊤, IsTrue}
+use Rattle.side_trees.specs.Sides.{Lang, TreeOf, Message, Event, Got, Begin, Pending, Over, Await, Failure, OutOfFuel, Beyond, Broken, Half, Going, Failed, react, half, written, units, got, sent}
+use Rattle.side_trees.specs.SharedRun.{Side, A, B, other, Two, part, Heap, Entry, Text, wrote, heard, begun, Course, Rests, Leaves, Dry, log_of, may_begin, one_text, one}
+use Rattle.side_trees.specs.Growing.{Extends, WithMore}
+use Rattle.side_trees.specs.Joining.{Sides, starts, waits, fails, pick, MayBegin, Joined, OneIsTwo}
+use Rattle.side_trees.specs.Schedules.{Quiet, HasFuel, Reached, Begun, A_reads, B_reads, A_begins, B_begins, Follows, All, Schedules, AnyUnits}
+use Rattle.side_trees.specs.SharedUnits.{with_units, drawing, AllRead, Drawn, Opened, A_takes, B_takes, A_starts, B_starts, EndsWith, Shares, PairEndsAsOne}
+use Rattle.side_trees.proofs.GrowthLaw.{half-in_turn, half-spends, half-more}
+use Rattle.side_trees.proofs.EverySchedule.{More, follows-of, any-units-at, ends-at, runs-out-at}
+use Rattle.side_trees.proofs.InTurnLaw.{text-begun}
+use Rattle.side_trees.proofs.DrawnUnits.{IsDry, Apart, AtLeast, Below, apart, DryOr, Is, IsNot, dry-or, Bought, bought-on, kept-written, kept-units, kept-may-begin, kept-dry, dry-kept, drawing-spends, Spent, written-a, Builds-a, Builds-b, step-a, step-b, takes-a, takes-b, starts-a, starts-b, opened, quiet-at-spent, reads-at}
+use Rattle.side_trees.proofs.OneInFlight.{quiet-when-dry-a, quiet-when-dry-b, quiet-when-text-dry-a, quiet-when-text-dry-b}
+
+-- a side that is out of fuel stays so, and units only fall
+react-stays : (L : Lang) (x : Half L) (e : Event L) → IsDry L x → IsDry L (react L x e)
+react-stays L (Going p s u w) e h = absurd h
+react-stays L (Failed x s u w) e h = h
+
+half-stays : (L : Lang) (x : Half L) (es : List (Event L)) → IsDry L x → IsDry L (half L x es)
+half-stays L x [] h = h
+half-stays L x (e ∷ es) h = react-stays L (half L x es) e (half-stays L x es h)
+
+dry-stays : (L : Lang) (start : Half L) (xs ys : List (Event L)) → Extends xs ys → IsDry L (half L start ys) → IsDry L (half L start xs)
+dry-stays L start xs ys (m, e) h = subst (IsDry L) (sym (ap (half L start) e ∙ half-in_turn L start m ys)) (half-stays L (half L start ys) m h)
+
+units-fall : (L : Lang) (start : Half L) (xs ys : List (Event L)) → Extends xs ys → units L (half L start xs) ≤ units L (half L start ys)
+units-fall L start xs ys (m, e) = subst (λ x. units L x ≤ units L (half L start ys)) (sym (ap (half L start) e ∙ half-in_turn L start m ys)) (half-spends L (half L start ys) m)
+
+never-none : (u c : ℕ) → u + suc c ≡ zero → ⊥
+never-none u c e = absurd (omega arith)
+
+-- where c units more leave none, the side is out of fuel without them
+dry-below : (L : Lang) (c : ℕ) (q y : Half L) → WithMore L (suc c) q y → units L y ≡ zero → IsDry L q
+dry-below L c (Going p s u w) y h e = absurd (never-none u c (sym (ap (units L) h) ∙ e))
+dry-below L c (Failed OutOfFuel s u w) y h e = tt
+dry-below L c (Failed (Beyond k) s u w) y h e = absurd (never-none u c (sym (ap (units L) h) ∙ e))
+dry-below L c (Failed Broken s u w) y h e = absurd (never-none u c (sym (ap (units L) h) ∙ e))
+
+fuel-of : (L : Lang) (x : Half L) → (IsDry L x → ⊥) → HasFuel L x
+fuel-of L (Going p s u w) h = tt
+fuel-of L (Failed OutOfFuel s u w) h = absurd (h tt)
+fuel-of L (Failed (Beyond k) s u w) h = tt
+fuel-of L (Failed Broken s u w) h = tt
+
+may-not-dry : (L : Lang) (x : Half L) → MayBegin L x → IsDry L x → ⊥
+may-not-dry L (Going p s u w) h k = k
+may-not-dry L (Failed x s u w) h k = absurd h
+
+-- sides at their start, by their units
+record Fresh (L : Lang) (start : Sides L) : Type 0 where
+  more : (h : Side) (n c : ℕ) (es : List (Event L)) → WithMore L c (half L (start h n) es) (half L (start h (n + c)) es)
+  same : (h : Side) (n k : ℕ) → start h n ≡ with_units L n (start h k)
+  fuel : (h : Side) (n : ℕ) → IsDry L (start h n) → ⊥
+  empty : (h : Side) (n : ℕ) → written L (start h n) ≡ []
+
+fresh : (L : Lang) (H : Heap L) (outs : Two L.A) (w : H.W) → Fresh L (starts L H outs w)
+fresh L H outs w = record {
+  more = λ h n c es. half-more L (Over (part h outs)) (H.seen_by h w) n c [] es;
+  same = λ h n k. refl;
+  fuel = λ h n dry. dry;
+  empty = λ h n. refl;
+}
+
+-- What law 2 and law 3 say of a course from f units. It ends with v units left, na and nb being spent; or it runs dry, na and nb being all of them.
+record End (L : Lang) (start : Sides L) (f : ℕ) (talk : List (Entry L)) (v na nb : ℕ) (ea eb : ℕ → Half L) : Type 0 where
+  sum : na + nb + v ≡ f
+  any : AnyUnits L start talk
+  at_a : (d : ℕ) → half L (start A (na + d)) (heard L A talk) ≡ ea d
+  at_b : (d : ℕ) → half L (start B (nb + d)) (heard L B talk) ≡ eb d
+  left_a : (d : ℕ) → units L (ea d) ≡ d
+  left_b : (d : ℕ) → units L (eb d) ≡ d
+  fuel_a : (d : ℕ) → IsDry L (ea d) → ⊥
+  fuel_b : (d : ℕ) → IsDry L (eb d) → ⊥
+
+record Drying (L : Lang) (start : Sides L) (f : ℕ) (talk : List (Entry L)) (na nb : ℕ) (ea eb : Half L) : Type 0 where
+  sum : na + nb ≡ f
+  all : Schedules L talk (start A na) (start B nb) ea eb
+  left_a : units L ea ≡ zero
+  left_b : units L eb ≡ zero
+  none : MayBegin L ea → MayBegin L eb → ⊥
+
+data Known (L : Lang) (start : Sides L) (f : ℕ) (talk : List (Entry L)) : Type 0 where
+  Ends : (v na nb : ℕ) (ea eb : ℕ → Half L) → End L start f talk v na nb ea eb → Known L start f talk
+  Dries : (na nb : ℕ) (ea eb : Half L) → Drying L start f talk na nb ea eb → Known L start f talk
+
+abbrev Settled : (L : Lang) (start : Sides L) (f : ℕ) (talk : List (Entry L)) → Known L start f talk → Half L → Half L → ℕ → Type 0
+Settled L start f talk (Ends v na nb ea eb r) x y u = (u ≡ v) × (with_units L v x ≡ ea v) × (with_units L v y ≡ eb v)
+Settled L start f talk (Dries na nb ea eb r) x y u = (u ≡ zero) × (with_units L zero x ≡ ea) × (with_units L zero y ≡ eb)
+
+-- where the course runs dry, neither side has spent more than its part
+abbrev Bounds : (L : Lang) (start : Sides L) (f : ℕ) (talk : List (Entry L)) → Known L start f talk → ℕ → ℕ → Type 0
+Bounds L start f talk (Ends v na nb ea eb r) n m = ⊤
+Bounds L start f talk (Dries na nb ea eb r) n m = (n ≤ na) × (m ≤ nb)
+
+swap-sum : (n m v f : ℕ) → n + m + v ≡ f → m + n + v ≡ f
+swap-sum n m v f e = omega arith
+
+swap-two : (n m f : ℕ) → n + m ≡ f → m + n ≡ f
+swap-two n m f e = omega arith
+
+none-more : (n : ℕ) → n + zero ≡ n
+none-more n = omega arith
+
+abbrev known : (L : Lang) (H : Heap L) (outs : Two L.A) (w : H.W) (f : ℕ) (course : Course L H) → Joined L H (starts L H outs w) f course → Known L (starts L H outs w) f (log_of L H course)
+known L H outs w f (Rests last v u talk) (n, m, sum, (p, q, c)) =
+    Ends u n m (waits L H (Over last.of_a) A v talk) (waits L H (Over last.of_b) B v talk) (record {
+      sum = sum;
+      any = any-units-at L H outs w talk A n m (waits L H (Over last.of_a) A v talk) (waits L H (Over last.of_b) B v talk)
+          (ends-at L (starts L H outs w) talk A n m (waits L H (Over last.of_a) A v talk) (waits L H (Over last.of_b) B v talk) p q c (λ d. refl) (λ d. refl));
+      at_a = p;
+      at_b = q;
+      left_a = λ d. refl;
+      left_b = λ d. refl;
+      fuel_a = λ d h. h;
+      fuel_b = λ d h. h;
+    })
+known L H outs w f (Leaves k v u talk) (A, n, m, p, sum, i, j, c) =
+    Ends u n m (fails L H (Beyond k) A v talk) (waits L H p B v talk) (record {
+      sum = sum;
+      any = any-units-at L H outs w talk A n m (fails L H (Beyond k) A v talk) (waits L H p B v talk)
+          (ends-at L (starts L H outs w) talk A n m (fails L H (Beyond k) A v talk) (waits L H p B v talk) i j c (λ d. refl) (λ d. refl));
+      at_a = i;
+      at_b = j;
+      left_a = λ d. refl;
+      left_b = λ d. refl;
+      fuel_a = λ d h. h;
+      fuel_b = λ d h. h;
+    })
+known L H outs w f (Leaves k v u talk) (B, n, m, p, sum, i, j, c) =
+    Ends u m n (waits L H p A v talk) (fails L H (Beyond k) B v talk) (record {
+      sum = swap-sum n m u f sum;
+      any = any-units-at L H outs w talk B n m (fails L H (Beyond k) B v talk) (waits L H p A v talk)
+          (ends-at L (starts L H outs w) talk B n m (fails L H (Beyond k) B v talk) (waits L H p A v talk) i j c (λ d. refl) (λ d. refl));
+      at_a = j;
+      at_b = i;
+      left_a = λ d. refl;
+      left_b = λ d. refl;
+      fuel_a = λ d h. h;
+      fuel_b = λ d h. h;
+    })
+known L H outs w f (Dry v talk) (A, n, m, p, sum, i, j, c) =
+    Dries n m (fails L H OutOfFuel A v talk zero) (waits L H p B v talk zero) (record {
+      sum = sum;
+      all = subst (λ k. Schedules L talk (starts L H outs w A n) (starts L H outs w B k) (fails L H OutOfFuel A v talk zero) (waits L H p B v talk zero)) (none-more m)
+          (runs-out-at L (starts L H outs w) talk A n m (fails L H OutOfFuel A v talk zero) (waits L H p B v talk) i j c refl (λ d. refl) zero);
+      left_a = refl;
+      left_b = refl;
+      none = λ a b. a;
+    })
+known L H outs w f (Dry v talk) (B, n, m, p, sum, i, j, c) =
+    Dries m n (waits L H p A v talk zero) (fails L H OutOfFuel B v talk zero) (record {
+      sum = swap-two n m f sum;
+      all = subst (λ k. Schedules L talk (starts L H outs w A k) (starts L H outs w B n) (waits L H p A v talk zero) (fails L H OutOfFuel B v talk zero)) (none-more m)
+          (runs-out-at L (starts L H outs w) talk B n m (fails L H OutOfFuel B v talk zero) (waits L H p A v talk) i j c refl (λ d. refl) zero);
+      left_a = refl;
+      left_b = refl;
+      none = λ a b. b;
+    })
+
+ends-with : (L : Lang) (H : Heap L) (outs : Two L.A) (w : H.W) (f : ℕ) (course : Course L H) (j : Joined L H (starts L H outs w) f course) (x y : Half L) (u : ℕ)
+    → Settled L (starts L H outs w) f (log_of L H course) (known L H outs w f course j) x y u → EndsWith L H course x y u
+ends-with L H outs w f (Rests last v k talk) (n, m, sum, (p, q, c)) x y u s = s
+ends-with L H outs w f (Leaves k v l talk) (A, n, m, p, sum, i, j, c) x y u (e, a, b) = (A, p, e, a, b)
+ends-with L H outs w f (Leaves k v l talk) (B, n, m, p, sum, i, j, c) x y u (e, a, b) = (B, p, e, b, a)
+ends-with L H outs w f (Dry v talk) (A, n, m, p, sum, i, j, c) x y u (e, a, b) = (A, p, e, a, b)
+ends-with L H outs w f (Dry v talk) (B, n, m, p, sum, i, j, c) x y u (e, a, b) = (B, p, e, b, a)
+
+-- Where the course ends with units left, neither side runs out of fuel.
+more-than-that : (n n' c : ℕ) → n ≡ n' + c → n + zero ≡ n' + c
+more-than-that n n' c e = omega arith
+
+the-other-more : (n m u n' m' v f c : ℕ) → n + m + u ≡ f → n' + m' + v ≡ f → u ≡ zero → n' ≡ n + suc c → m + zero ≡ m' + (v + suc c)
+the-other-more n m u n' m' v f c e h i k = omega arith
+
+not-left : (v c k : ℕ) → k ≡ v + suc c → k ≤ zero → ⊥
+not-left v c k e h = absurd (omega arith)
+
+not-dry : (L : Lang) (mine theirs : ℕ → Half L) (n m n' m' v f u : ℕ) (r s hm ho : List (Event L)) (x y : Half L) (e e' : ℕ → Half L)
+    → n + m + u ≡ f → n' + m' + v ≡ f → Bought L mine n r x → Bought L theirs m s y → (IsDry L x → u ≡ zero) → Extends hm r → Extends ho s
+    → ((d : ℕ) → half L (mine (n' + d)) hm ≡ e d) → ((d : ℕ) → half L (theirs (m' + d)) ho ≡ e' d) → ((d : ℕ) → IsDry L (e d) → ⊥) → ((d : ℕ) → units L (e' d) ≡ d)
+    → Apart n n' → IsDry L x → ⊥
+not-dry L mine theirs n m n' m' v f u r s hm ho x y e e' sum sum' b b' none i j at at' fuel left (AtLeast c k) dry =
+    let now : IsDry L (half L (mine (n + zero)) r) = subst (IsDry L) (sym (b zero (λ h. refl))) (dry-kept L zero x dry) in
+    let then : IsDry L (half L (mine (n + zero)) hm) = dry-stays L (mine (n + zero)) hm r i now in
+    fuel c (subst (IsDry L) (ap (λ l. half L (mine l) hm) (more-than-that n n' c k) ∙ at c) then)
+not-dry L mine theirs n m n' m' v f u r s hm ho x y e e' sum sum' b b' none i j at at' fuel left (Below c k) dry =
+    let falls : units L (half L (theirs (m + zero)) ho) ≤ units L (half L (theirs (m + zero)) s) = units-fall L (theirs (m + zero)) ho s j in
+    let end : units L (half L (theirs (m + zero)) s) ≡ zero = ap (units L) (b' zero (λ h. refl)) ∙ kept-units L zero y in
+    let over : units L (half L (theirs (m + zero)) ho) ≡ v + suc c =
+        ap (λ l. units L (half L (theirs l) ho)) (the-other-more n m u n' m' v f c sum sum' (none dry) k) ∙ ap (units L) (at' (v + suc c)) ∙ left (v + suc c) in
+    not-left v c (units L (half L (theirs (m + zero)) ho)) over (subst (λ k. units L (half L (theirs (m + zero)) ho) ≤ k) end falls)
+
+-- the schedule with what each side spent
+abbrev reached-now : (L : Lang) (sa sb : ℕ → Half L) (f : ℕ) (xs : List (Text L)) (ra rb : List (Event L)) (x y : Half L) (u : ℕ) (s : Spent L sa sb f xs ra rb x y u)
+    → Reached L (sa (s.n + zero)) (sb (s.m + zero)) xs ra rb
+reached-now L sa sb f xs ra rb x y u s = s.reached zero zero (λ h. refl) (λ h. refl)
+
+ends-follow : (L : Lang) (start : Sides L) (f : ℕ) (talk : List (Entry L)) (v na nb : ℕ) (ea eb : ℕ → Half L) (k : End L start f talk v na nb ea eb)
+    (xs : List (Text L)) (ra rb : List (Event L)) (x y : Half L) (u : ℕ) (s : Spent L (start A) (start B) f xs ra rb x y u) → begun L talk ≡ xs
+    → Follows L (start A (s.n + zero)) (start B (s.m + zero)) talk ra rb
+ends-follow L start f talk v na nb ea eb k xs ra rb x y u s e =
+    (k.any (s.n + zero) (s.m + zero) ra rb
+    (subst (λ l. Reached L (start A (s.n + zero)) (start B (s.m + zero)) l ra rb) (sym e) (reached-now L (start A) (start B) f xs ra rb x y u s))).0
+
+ends-not-dry-a : (L : Lang) (start : Sides L) (f : ℕ) (talk : List (Entry L)) (v na nb : ℕ) (ea eb : ℕ → Half L) (k : End L start f talk v na nb ea eb)
+    (xs : List (Text L)) (ra rb : List (Event L)) (x y : Half L) (u : ℕ) (s : Spent L (start A) (start B) f xs ra rb x y u) → begun L talk ≡ xs → IsDry L x → ⊥
+ends-not-dry-a L start f talk v na nb ea eb k xs ra rb x y u s e dry =
+    let g : Follows L (start A (s.n + zero)) (start B (s.m + zero)) talk ra rb = ends-follow L start f talk v na nb ea eb k xs ra rb x y u s e in
+    not-dry L (start A) (start B) s.n s.m na nb v f u ra rb (heard L A talk) (heard L B talk) x y ea eb s.sum k.sum s.bought_a s.bought_b s.dry_a g.0 g.1
+    k.at_a k.at_b k.fuel_a k.left_b (apart s.n na) dry
+
+ends-not-dry-b : (L : Lang) (start : Sides L) (f : ℕ) (talk : List (Entry L)) (v na nb : ℕ) (ea eb : ℕ → Half L) (k : End L start f talk v na nb ea eb)
+    (xs : List (Text L)) (ra rb : List (Event L)) (x y : Half L) (u : ℕ) (s : Spent L (start A) (start B) f xs ra rb x y u) → begun L talk ≡ xs → IsDry L y → ⊥
+ends-not-dry-b L start f talk v na nb ea eb k xs ra rb x y u s e dry =
+    let g : Follows L (start A (s.n + zero)) (start B (s.m + zero)) talk ra rb = ends-follow L start f talk v na nb ea eb k xs ra rb x y u s e in
+    not-dry L (start B) (start A) s.m s.n nb na v f u rb ra (heard L B talk) (heard L A talk) y x eb ea (swap-sum s.n s.m u f s.sum) (swap-sum na nb v f k.sum)
+    s.bought_b s.bought_a s.dry_b g.1 g.0 k.at_b k.at_a k.fuel_b k.left_a (apart s.m nb) dry
+
+-- at rest it has spent what the course spends there
+turned : (n m : ℕ) → n + m ≡ m + n
+turned n m = omega arith
+
+same-spent : (L : Lang) (mine : ℕ → Half L) (n n' : ℕ) (r hm : List (Event L)) (x : Half L) (e : ℕ → Half L) → r ≡ hm → Bought L mine n r x → (IsDry L x → ⊥)
+    → ((d : ℕ) → half L (mine (n' + d)) hm ≡ e d) → ((d : ℕ) → units L (e d) ≡ d) → n ≡ n'
+same-spent L mine n n' r hm x e same b fuel at left =
+    sym (
+    sym (kept-units L n' x) ∙ sym (ap (units L) (b n' (λ h. absurd (fuel h)))) ∙ ap (λ k. units L (half L (mine k) r)) (turned n n')
+    ∙ ap (λ l. units L (half L (mine (n' + n)) l)) same ∙ ap (units L) (at n) ∙ left n)
+
+same-end : (L : Lang) (mine : ℕ → Half L) (n n' : ℕ) (r hm : List (Event L)) (x : Half L) (e : ℕ → Half L) (d : ℕ) → r ≡ hm → Bought L mine n r x → (IsDry L x → ⊥)
+    → ((d : ℕ) → half L (mine (n' + d)) hm ≡ e d) → n ≡ n' → with_units L d x ≡ e d
+same-end L mine n n' r hm x e d same b fuel at spent =
+    sym (b d (λ h. absurd (fuel h))) ∙ ap (λ k. half L (mine (k + d)) r) spent ∙ ap (half L (mine (n' + d))) same ∙ at d
+
+same-left : (n m u v f : ℕ) (na nb : ℕ) → n + m + u ≡ f → na + nb + v ≡ f → n ≡ na → m ≡ nb → u ≡ v
+same-left n m u v f na nb e h i j = omega arith
+
+fuel-now : (L : Lang) (start : ℕ → Half L) (n : ℕ) (r : List (Event L)) (x : Half L) → Bought L start n r x → (IsDry L x → ⊥) → HasFuel L (half L (start (n + zero)) r)
+fuel-now L start n r x b fuel = fuel-of L (half L (start (n + zero)) r) (λ h. fuel (kept-dry L zero x (subst (IsDry L) (b zero (λ k. refl)) h)))
+
+ends-all : (L : Lang) (start : Sides L) (f : ℕ) (talk : List (Entry L)) (v na nb : ℕ) (ea eb : ℕ → Half L) (k : End L start f talk v na nb ea eb)
+    (xs : List (Text L)) (ra rb : List (Event L)) (x y : Half L) (u : ℕ) (s : Spent L (start A) (start B) f xs ra rb x y u) → begun L talk ≡ xs → AllRead L x y ra rb
+    → All L talk ra rb
+ends-all L start f talk v na nb ea eb k xs ra rb x y u s e rest =
+    (k.any (s.n + zero) (s.m + zero) ra rb
+    (subst (λ l. Reached L (start A (s.n + zero)) (start B (s.m + zero)) l ra rb) (sym e) (reached-now L (start A) (start B) f xs ra rb x y u s))).1
+    (quiet-at-spent L (start A) (start B) f xs ra rb x y u s zero zero (λ h. refl) (λ h. refl) rest)
+    (fuel-now L (start A) s.n ra x s.bought_a (ends-not-dry-a L start f talk v na nb ea eb k xs ra rb x y u s e))
+    (fuel-now L (start B) s.m rb y s.bought_b (ends-not-dry-b L start f talk v na nb ea eb k xs ra rb x y u s e))
+
+ends-settled : (L : Lang) (start : Sides L) (f : ℕ) (talk : List (Entry L)) (v na nb : ℕ) (ea eb : ℕ → Half L) (k : End L start f talk v na nb ea eb)
+    (xs : List (Text L)) (ra rb : List (Event L)) (x y : Half L) (u : ℕ) (s : Spent L (start A) (start B) f xs ra rb x y u) → begun L talk ≡ xs → AllRead L x y ra rb
+    → Settled L start f talk (Ends v na nb ea eb k) x y u
+ends-settled L start f talk v na nb ea eb k xs ra rb x y u s e rest =
+    let read : All L talk ra rb = ends-all L start f talk v na nb ea eb k xs ra rb x y u s e rest in
+    let a : IsDry L x → ⊥ = ends-not-dry-a L start f talk v na nb ea eb k xs ra rb x y u s e in
+    let b : IsDry L y → ⊥ = ends-not-dry-b L start f talk v na nb ea eb k xs ra rb x y u s e in
+    let p : s.n ≡ na = same-spent L (start A) s.n na ra (heard L A talk) x ea read.0 s.bought_a a k.at_a k.left_a in
+    let q : s.m ≡ nb = same-spent L (start B) s.m nb rb (heard L B talk) y eb read.1 s.bought_b b k.at_b k.left_b in (
+      same-left s.n s.m u v f na nb s.sum k.sum p q,
+      same-end L (start A) s.n na ra (heard L A talk) x ea v read.0 s.bought_a a k.at_a p,
+      same-end L (start B) s.m nb rb (heard L B talk) y eb v read.1 s.bought_b b k.at_b q,
+    )
+
+-- Where the course runs dry, no side spends more than its part, and at rest each has spent it.
+up-to : (n na : ℕ) → n ≤ na → n + (na - n) ≡ na
+up-to n na h = omega arith
+
+there : (L : Lang) (start : Sides L) (n m i j na nb : ℕ) (xs : List (Text L)) (ra rb : List (Event L)) → n + i ≡ na → m + j ≡ nb
+    → Reached L (start A (n + i)) (start B (m + j)) xs ra rb → Reached L (start A na) (start B nb) xs ra rb
+there L start n m i j na nb xs ra rb p q r =
+    subst (λ k. Reached L (start A k) (start B nb) xs ra rb) p (subst (λ k. Reached L (start A (n + i)) (start B k) xs ra rb) q r)
+
+quiet-there : (L : Lang) (start : Sides L) (n m i j na nb : ℕ) (ra rb : List (Event L)) → n + i ≡ na → m + j ≡ nb
+    → Quiet L (start A (n + i)) (start B (m + j)) ra rb → Quiet L (start A na) (start B nb) ra rb
+quiet-there L start n m i j na nb ra rb p q r =
+    subst (λ k. Quiet L (start A k) (start B nb) ra rb) p (subst (λ k. Quiet L (start A (n + i)) (start B k) ra rb) q r)
+
+-- the units left over, where n units come to x and n and i to a side with none
+none-over : (L : Lang) (mine : ℕ → Half L) (n i na : ℕ) (r : List (Event L)) (x e : Half L) → n + i ≡ na → Bought L mine n r x → (IsDry L x → i ≡ zero)
+    → half L (mine na) r ≡ e → units L e ≡ zero → i ≡ zero
+none-over L mine n i na r x e p b h q left =
+    sym (kept-units L i x) ∙ ap (units L) (sym (b i h) ∙ ap (λ k. half L (mine k) r) p ∙ q) ∙ left
+
+all-spent : (n m u i j f na nb : ℕ) → n + m + u ≡ f → na + nb ≡ f → n + i ≡ na → m + j ≡ nb → i ≡ zero → j ≡ zero → u ≡ zero
+all-spent n m u i j f na nb e h p q a b = omega arith
+
+dries-settled-at : (L : Lang) (start : Sides L) (f : ℕ) (talk : List (Entry L)) (na nb : ℕ) (ea eb : Half L) (k : Drying L start f talk na nb ea eb)
+    (xs : List (Text L)) (ra rb : List (Event L)) (x y : Half L) (u : ℕ) (s : Spent L (start A) (start B) f xs ra rb x y u) → begun L talk ≡ xs → AllRead L x y ra rb
+    → (i j : ℕ) → (IsDry L x → i ≡ zero) → (IsDry L y → j ≡ zero) → s.n + i ≡ na → s.m + j ≡ nb
+    → All L talk ra rb × Settled L start f talk (Dries na nb ea eb k) x y u
+dries-settled-at L start f talk na nb ea eb k xs ra rb x y u s e rest i j h l p q =
+    let r : Reached L (start A na) (start B nb) (begun L talk) ra rb =
+        subst (λ t. Reached L (start A na) (start B nb) t ra rb) (sym e) (there L start s.n s.m i j na nb xs ra rb p q (s.reached i j h l)) in
+    let quiet : Quiet L (start A na) (start B nb) ra rb =
+        quiet-there L start s.n s.m i j na nb ra rb p q (quiet-at-spent L (start A) (start B) f xs ra rb x y u s i j h l rest) in
+    let end : All L talk ra rb × (half L (start A na) ra ≡ ea) × (half L (start B nb) rb ≡ eb) = (k.all.2 ra rb r).1 quiet in
+    let a : i ≡ zero = none-over L (start A) s.n i na ra x ea p s.bought_a h end.1 k.left_a in
+    let b : j ≡ zero = none-over L (start B) s.m j nb rb y eb q s.bought_b l end.2 k.left_b in (
+      end.0, (
+        all-spent s.n s.m u i j f na nb s.sum k.sum p q a b,
+        sym (ap (λ d. with_units L d x) a) ∙ sym (s.bought_a i h) ∙ ap (λ d. half L (start A d) ra) p ∙ end.1,
+        sym (ap (λ d. with_units L d y) b) ∙ sym (s.bought_b j l) ∙ ap (λ d. half L (start B d) rb) q ∙ end.2,
+      ),
+    )
