@@ -305,3 +305,123 @@ dries-settled-at L start f talk na nb ea eb k xs ra rb x y u s e rest i j h l p 
         sym (ap (λ d. with_units L d y) b) ∙ sym (s.bought_b j l) ∙ ap (λ d. half L (start B d) rb) q ∙ end.2,
       ),
     )
+
+no-more-here : (n m u na nb f : ℕ) → n + m + u ≡ f → na + nb ≡ f → n ≤ na → m ≤ nb → u ≡ zero → n + zero ≡ na
+no-more-here n m u na nb f e h i j k = omega arith
+
+no-more-there : (n m u na nb f : ℕ) → n + m + u ≡ f → na + nb ≡ f → n ≤ na → m ≤ nb → u ≡ zero → m + zero ≡ nb
+no-more-there n m u na nb f e h i j k = omega arith
+
+dries-by : (L : Lang) (start : Sides L) (f : ℕ) (talk : List (Entry L)) (na nb : ℕ) (ea eb : Half L) (k : Drying L start f talk na nb ea eb)
+    (xs : List (Text L)) (ra rb : List (Event L)) (x y : Half L) (u : ℕ) (s : Spent L (start A) (start B) f xs ra rb x y u) → begun L talk ≡ xs → s.n ≤ na → s.m ≤ nb → AllRead L x y ra rb
+    → DryOr L x → DryOr L y → All L talk ra rb × Settled L start f talk (Dries na nb ea eb k) x y u
+dries-by L start f talk na nb ea eb k xs ra rb x y u s e p q rest (Is h) l =
+    dries-settled-at L start f talk na nb ea eb k xs ra rb x y u s e rest zero zero (λ i. refl) (λ i. refl)
+    (no-more-here s.n s.m u na nb f s.sum k.sum p q (s.dry_a h)) (no-more-there s.n s.m u na nb f s.sum k.sum p q (s.dry_a h))
+dries-by L start f talk na nb ea eb k xs ra rb x y u s e p q rest (IsNot h) (Is l) =
+    dries-settled-at L start f talk na nb ea eb k xs ra rb x y u s e rest zero zero (λ i. refl) (λ i. refl)
+    (no-more-here s.n s.m u na nb f s.sum k.sum p q (s.dry_b l)) (no-more-there s.n s.m u na nb f s.sum k.sum p q (s.dry_b l))
+dries-by L start f talk na nb ea eb k xs ra rb x y u s e p q rest (IsNot h) (IsNot l) =
+    dries-settled-at L start f talk na nb ea eb k xs ra rb x y u s e rest (na - s.n) (nb - s.m) (λ i. absurd (h i)) (λ i. absurd (l i)) (up-to s.n na p) (up-to s.m nb q)
+
+up-from : (n na : ℕ) → n ≤ na → (n + zero) + (na - n) ≡ na
+up-from n na h = omega arith
+
+more-up : (L : Lang) (start : Sides L) (z : Fresh L start) (h : Side) (n na : ℕ) → n ≤ na → More L (na - n) (start h (n + zero)) (start h na)
+more-up L start z h n na less es =
+    subst (λ k. WithMore L (na - n) (half L (start h (n + zero)) es) (half L (start h k) es)) (up-from n na less) (z.more h (n + zero) (na - n) es)
+
+dries-follow : (L : Lang) (start : Sides L) (z : Fresh L start) (f : ℕ) (talk : List (Entry L)) (na nb : ℕ) (ea eb : Half L) (k : Drying L start f talk na nb ea eb)
+    (xs : List (Text L)) (ra rb : List (Event L)) (x y : Half L) (u : ℕ) (s : Spent L (start A) (start B) f xs ra rb x y u) → begun L talk ≡ xs → s.n ≤ na → s.m ≤ nb
+    → Follows L (start A (s.n + zero)) (start B (s.m + zero)) talk ra rb
+dries-follow L start z f talk na nb ea eb k xs ra rb x y u s e p q =
+    follows-of L (start A (s.n + zero)) (start B (s.m + zero)) (start A na) (start B nb) (na - s.n) (nb - s.m) talk ea eb (more-up L start z A s.n na p) (more-up L start z B s.m nb q) k.all
+    ra rb (subst (λ l. Reached L (start A (s.n + zero)) (start B (s.m + zero)) l ra rb) (sym e) (reached-now L (start A) (start B) f xs ra rb x y u s))
+
+-- one event more
+spends-none : (n u v na c : ℕ) → n ≤ na → n + (u - v) ≡ na + suc c → u ≡ zero → ⊥
+spends-none n u v na c h e i = absurd (omega arith)
+
+no-excess : (n m u v j f na nb c : ℕ) → n + m + u ≡ f → na + nb ≡ f → m + j ≡ nb → j ≡ zero → n + (u - v) ≡ na + suc c → ⊥
+no-excess n m u v j f na nb c e h i k l = absurd (omega arith)
+
+within : (n na c : ℕ) → na ≡ n + c → n ≤ na
+within n na c e = omega arith
+
+ran-out : (L : Lang) (start : Sides L) (z : Fresh L start) (h : Side) (n na c : ℕ) (r : List (Event L)) (x : Half L) → n ≡ na + suc c → Bought L (start h) n r x → IsDry L (half L (start h na) r)
+ran-out L start z h n na c r x e b =
+    dry-below L c (half L (start h na) r) (half L (start h (na + suc c)) r) (z.more h na (suc c) r)
+    (ap (λ k. units L (half L (start h k) r)) (sym e ∙ sym (none-more n)) ∙ ap (units L) (b zero (λ d. refl)) ∙ kept-units L zero x)
+
+abbrev Quiets-a : (L : Lang) (sa sb : ℕ → Half L) (n m : ℕ) (xs : List (Text L)) (ra rb : List (Event L)) (x y : Half L) (e : Event L) → Type 0
+Quiets-a L sa sb n m xs ra rb x y e = (d k : ℕ) → (IsDry L x → d ≡ zero) → (IsDry L y → k ≡ zero) → Reached L (sa (n + d)) (sb (m + k)) xs ra rb
+    → IsDry L (half L (sa (n + d)) (e ∷ ra)) → Quiet L (sa (n + d)) (sb (m + k)) (e ∷ ra) rb
+
+abbrev Quiets-b : (L : Lang) (sa sb : ℕ → Half L) (n m : ℕ) (xs : List (Text L)) (ra rb : List (Event L)) (x y : Half L) (e : Event L) → Type 0
+Quiets-b L sa sb n m xs ra rb x y e = (d k : ℕ) → (IsDry L x → d ≡ zero) → (IsDry L y → k ≡ zero) → Reached L (sa (n + d)) (sb (m + k)) xs ra rb
+    → IsDry L (half L (sb (m + k)) (e ∷ rb)) → Quiet L (sa (n + d)) (sb (m + k)) ra (e ∷ rb)
+
+within-a : (L : Lang) (start : Sides L) (z : Fresh L start) (f : ℕ) (talk : List (Entry L)) (na nb : ℕ) (ea eb : Half L) (k : Drying L start f talk na nb ea eb)
+    (xs more : List (Text L)) (ra rb : List (Event L)) (x y : Half L) (u : ℕ) (e : Event L) (s : Spent L (start A) (start B) f xs ra rb x y u)
+    → Builds-a L (start A) (start B) s.n s.m xs more ra rb x y e → Quiets-a L (start A) (start B) s.n s.m xs ra rb x y e → begun L talk ≡ more → s.n ≤ na → s.m ≤ nb
+    → Apart na (s.n + (u - units L (drawing L u x e))) → s.n + (u - units L (drawing L u x e)) ≤ na
+within-a L start z f talk na nb ea eb k xs more ra rb x y u e s build quiets t p q (AtLeast c l) = within (s.n + (u - units L (drawing L u x e))) na c l
+within-a L start z f talk na nb ea eb k xs more ra rb x y u e s build quiets t p q (Below c l) =
+    let v : ℕ = units L (drawing L u x e) in
+    let i : ℕ = na - s.n in
+    let j : ℕ = nb - s.m in
+    let h : IsDry L x → i ≡ zero = λ dry. absurd (spends-none s.n u v na c p l (s.dry_a dry)) in
+    let g : IsDry L y → j ≡ zero = λ dry. absurd (spends-none s.n u v na c p l (s.dry_b dry)) in
+    let r : Reached L (start A (s.n + i)) (start B (s.m + j)) xs ra rb = s.reached i j h g in
+    let dry : IsDry L (half L (start A na) (e ∷ ra)) = ran-out L start z A (s.n + (u - v)) na c (e ∷ ra) (drawing L u x e) l (bought-on L (start A) s.n u ra x e s.dry_a s.bought_a) in
+    let quiet : Quiet L (start A (s.n + i)) (start B (s.m + j)) (e ∷ ra) rb =
+        quiets i j h g r (subst (λ d. IsDry L (half L (start A d) (e ∷ ra))) (sym (up-to s.n na p)) dry) in
+    let end : All L talk (e ∷ ra) rb × (half L (start A na) (e ∷ ra) ≡ ea) × (half L (start B nb) rb ≡ eb) =
+        (k.all.2 (e ∷ ra) rb (subst (λ d. Reached L (start A na) (start B nb) d (e ∷ ra) rb) (sym t)
+        (there L start s.n s.m i j na nb more (e ∷ ra) rb (up-to s.n na p) (up-to s.m nb q) (build i j h g r)))).1
+        (quiet-there L start s.n s.m i j na nb (e ∷ ra) rb (up-to s.n na p) (up-to s.m nb q) quiet) in
+    let none : j ≡ zero = none-over L (start B) s.m j nb rb y eb (up-to s.m nb q) s.bought_b g end.2 k.left_b in
+    absurd (no-excess s.n s.m u v j f na nb c s.sum k.sum (up-to s.m nb q) none l)
+
+within-b : (L : Lang) (start : Sides L) (z : Fresh L start) (f : ℕ) (talk : List (Entry L)) (na nb : ℕ) (ea eb : Half L) (k : Drying L start f talk na nb ea eb)
+    (xs more : List (Text L)) (ra rb : List (Event L)) (x y : Half L) (u : ℕ) (e : Event L) (s : Spent L (start A) (start B) f xs ra rb x y u)
+    → Builds-b L (start A) (start B) s.n s.m xs more ra rb x y e → Quiets-b L (start A) (start B) s.n s.m xs ra rb x y e → begun L talk ≡ more → s.n ≤ na → s.m ≤ nb
+    → Apart nb (s.m + (u - units L (drawing L u y e))) → s.m + (u - units L (drawing L u y e)) ≤ nb
+within-b L start z f talk na nb ea eb k xs more ra rb x y u e s build quiets t p q (AtLeast c l) = within (s.m + (u - units L (drawing L u y e))) nb c l
+within-b L start z f talk na nb ea eb k xs more ra rb x y u e s build quiets t p q (Below c l) =
+    let v : ℕ = units L (drawing L u y e) in
+    let i : ℕ = na - s.n in
+    let j : ℕ = nb - s.m in
+    let h : IsDry L x → i ≡ zero = λ dry. absurd (spends-none s.m u v nb c q l (s.dry_a dry)) in
+    let g : IsDry L y → j ≡ zero = λ dry. absurd (spends-none s.m u v nb c q l (s.dry_b dry)) in
+    let r : Reached L (start A (s.n + i)) (start B (s.m + j)) xs ra rb = s.reached i j h g in
+    let dry : IsDry L (half L (start B nb) (e ∷ rb)) = ran-out L start z B (s.m + (u - v)) nb c (e ∷ rb) (drawing L u y e) l (bought-on L (start B) s.m u rb y e s.dry_b s.bought_b) in
+    let quiet : Quiet L (start A (s.n + i)) (start B (s.m + j)) ra (e ∷ rb) =
+        quiets i j h g r (subst (λ d. IsDry L (half L (start B d) (e ∷ rb))) (sym (up-to s.m nb q)) dry) in
+    let end : All L talk ra (e ∷ rb) × (half L (start A na) ra ≡ ea) × (half L (start B nb) (e ∷ rb) ≡ eb) =
+        (k.all.2 ra (e ∷ rb) (subst (λ d. Reached L (start A na) (start B nb) d ra (e ∷ rb)) (sym t)
+        (there L start s.n s.m i j na nb more ra (e ∷ rb) (up-to s.n na p) (up-to s.m nb q) (build i j h g r)))).1
+        (quiet-there L start s.n s.m i j na nb ra (e ∷ rb) (up-to s.n na p) (up-to s.m nb q) quiet) in
+    let none : i ≡ zero = none-over L (start A) s.n i na ra x ea (up-to s.n na p) s.bought_a h end.1 k.left_a in
+    absurd (no-excess s.m s.n u v i f nb na c (swap-sum s.n s.m u f s.sum) (swap-two na nb f k.sum) (up-to s.n na p) none l)
+
+-- a message under way is the only one, so a side that runs out of fuel over it leaves nothing unread
+quiets-read-a : (L : Lang) (start : Sides L) (z : Fresh L start) (f : ℕ) (xs : List (Text L)) (ra rb : List (Event L)) (x y : Half L) (u : ℕ) (m : Message L)
+    (s : Spent L (start A) (start B) f xs ra rb x y u) → Extends (sent L (written L y)) (m ∷ got L ra) → Quiets-a L (start A) (start B) s.n s.m xs ra rb x y (Got m)
+quiets-read-a L start z f xs ra rb x y u m s ext d k h i r dry =
+    quiet-when-dry-a L (start A (s.n + d)) (start B (s.m + k)) m (z.empty A (s.n + d)) (z.empty B (s.m + k)) r (reads-at L (start B) s.m rb y k (m ∷ got L ra) s.bought_b i ext) dry
+
+quiets-read-b : (L : Lang) (start : Sides L) (z : Fresh L start) (f : ℕ) (xs : List (Text L)) (ra rb : List (Event L)) (x y : Half L) (u : ℕ) (m : Message L)
+    (s : Spent L (start A) (start B) f xs ra rb x y u) → Extends (sent L (written L x)) (m ∷ got L rb) → Quiets-b L (start A) (start B) s.n s.m xs ra rb x y (Got m)
+quiets-read-b L start z f xs ra rb x y u m s ext d k h i r dry =
+    quiet-when-dry-b L (start A (s.n + d)) (start B (s.m + k)) m (z.empty A (s.n + d)) (z.empty B (s.m + k)) r (reads-at L (start A) s.n ra x d (m ∷ got L rb) s.bought_a h ext) dry
+
+quiets-text-a : (L : Lang) (start : Sides L) (f : ℕ) (xs : List (Text L)) (ra rb : List (Event L)) (x y : Half L) (u : ℕ) (t : TreeOf L)
+    (s : Spent L (start A) (start B) f xs ra rb x y u) → AllRead L x y ra rb → Quiets-a L (start A) (start B) s.n s.m xs ra rb x y (Begin t)
+quiets-text-a L start f xs ra rb x y u t s rest d k h i r dry =
+    quiet-when-text-dry-a L (start A (s.n + d)) (start B (s.m + k)) ra rb t (quiet-at-spent L (start A) (start B) f xs ra rb x y u s d k h i rest) dry
+
+quiets-text-b : (L : Lang) (start : Sides L) (f : ℕ) (xs : List (Text L)) (ra rb : List (Event L)) (x y : Half L) (u : ℕ) (t : TreeOf L)
+    (s : Spent L (start A) (start B) f xs ra rb x y u) → AllRead L x y ra rb → Quiets-b L (start A) (start B) s.n s.m xs ra rb x y (Begin t)
+quiets-text-b L start f xs ra rb x y u t s rest d k h i r dry =
+    quiet-when-text-dry-b L (start A (s.n + d)) (start B (s.m + k)) ra rb t (quiet-at-spent L (start A) (start B) f xs ra rb x y u s d k h i rest) dry
