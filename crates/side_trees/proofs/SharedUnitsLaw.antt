@@ -425,3 +425,234 @@ quiets-text-b : (L : Lang) (start : Sides L) (f : ℕ) (xs : List (Text L)) (ra 
     (s : Spent L (start A) (start B) f xs ra rb x y u) → AllRead L x y ra rb → Quiets-b L (start A) (start B) s.n s.m xs ra rb x y (Begin t)
 quiets-text-b L start f xs ra rb x y u t s rest d k h i r dry =
     quiet-when-text-dry-b L (start A (s.n + d)) (start B (s.m + k)) ra rb t (quiet-at-spent L (start A) (start B) f xs ra rb x y u s d k h i rest) dry
+
+-- where a schedule began its last text
+record Point (L : Lang) (a b : Half L) (xs : List (Text L)) : Type 0 where
+  ra : List (Event L)
+  rb : List (Event L)
+  reached : Reached L a b xs ra rb
+  quiet : Quiet L a b ra rb
+  may_a : MayBegin L (half L a ra)
+  may_b : MayBegin L (half L b rb)
+
+abbrev less-one : {M : Type 0} → List M → List M
+less-one [] = []
+less-one (x ∷ xs) = xs
+
+point : (L : Lang) (a b : Half L) (x : Text L) (xs : List (Text L)) {ys : List (Text L)} {ra rb : List (Event L)} → Reached L a b ys ra rb → ys ≡ x ∷ xs → Point L a b xs
+point L a b x xs Begun e = absurd cc
+point L a b x xs (A_reads m r h) e = point L a b x xs r e
+point L a b x xs (B_reads m r h) e = point L a b x xs r e
+point L a b x xs (A_begins {ra = ra} {rb = rb} t r q i j) e =
+    record { ra = ra; rb = rb; reached = subst (λ l. Reached L a b l ra rb) (ap less-one e) r; quiet = q; may_a = i; may_b = j }
+point L a b x xs (B_begins {ra = ra} {rb = rb} t r q i j) e =
+    record { ra = ra; rb = rb; reached = subst (λ l. Reached L a b l ra rb) (ap less-one e) r; quiet = q; may_a = i; may_b = j }
+
+-- what was spent before a text is no more than what its course spends
+before-at : (L : Lang) (start : Sides L) (z : Fresh L start) (h : Side) (n na : ℕ) (r old : List (Event L)) (x : Half L) → old ≡ r → Bought L (start h) n r x
+    → MayBegin L (half L (start h na) old) → Apart na n → n ≤ na
+before-at L start z h n na r old x e b may (AtLeast c l) = within n na c l
+before-at L start z h n na r old x e b may (Below c l) =
+    absurd (may-not-dry L (half L (start h na) old) may (subst (λ k. IsDry L (half L (start h na) k)) (sym e) (ran-out L start z h n na c r x l b)))
+
+before-text : (L : Lang) (start : Sides L) (z : Fresh L start) (f : ℕ) (talk : List (Entry L)) (v ka kb : ℕ) (da db : ℕ → Half L) (k : End L start f talk v ka kb da db)
+    (xs : List (Text L)) (ra rb : List (Event L)) (x y : Half L) (u : ℕ) (s : Spent L (start A) (start B) f xs ra rb x y u) → begun L talk ≡ xs → AllRead L x y ra rb
+    → (later : List (Entry L)) (na nb : ℕ) (ea eb : Half L) (l : Drying L start f later na nb ea eb) (t : Text L) → begun L later ≡ t ∷ xs → (s.n ≤ na) × (s.m ≤ nb)
+before-text L start z f talk v ka kb da db k xs ra rb x y u s e rest later na nb ea eb l t i =
+    let p : Point L (start A na) (start B nb) xs = point L (start A na) (start B nb) t xs l.all.0 i in
+    let then : All L talk p.ra p.rb =
+        (k.any na nb p.ra p.rb (subst (λ d. Reached L (start A na) (start B nb) d p.ra p.rb) (sym e) p.reached)).1 p.quiet
+        (fuel-of L (half L (start A na) p.ra) (may-not-dry L (half L (start A na) p.ra) p.may_a)) (fuel-of L (half L (start B nb) p.rb) (may-not-dry L (half L (start B nb) p.rb) p.may_b)) in
+    let now : All L talk ra rb = ends-all L start f talk v ka kb da db k xs ra rb x y u s e rest in (
+      before-at L start z A s.n na ra p.ra x (then.0 ∙ sym now.0) s.bought_a p.may_a (apart na s.n),
+      before-at L start z B s.m nb rb p.rb y (then.1 ∙ sym now.1) s.bought_b p.may_b (apart nb s.m),
+    )
+
+-- any course at rest
+known-follow : (L : Lang) (start : Sides L) (z : Fresh L start) (f : ℕ) (talk : List (Entry L)) (k : Known L start f talk)
+    (xs : List (Text L)) (ra rb : List (Event L)) (x y : Half L) (u : ℕ) (s : Spent L (start A) (start B) f xs ra rb x y u) → begun L talk ≡ xs → Bounds L start f talk k s.n s.m
+    → Follows L (start A (s.n + zero)) (start B (s.m + zero)) talk ra rb
+known-follow L start z f talk (Ends v na nb ea eb k) xs ra rb x y u s e b = ends-follow L start f talk v na nb ea eb k xs ra rb x y u s e
+known-follow L start z f talk (Dries na nb ea eb k) xs ra rb x y u s e (p, q) = dries-follow L start z f talk na nb ea eb k xs ra rb x y u s e p q
+
+known-rest : (L : Lang) (start : Sides L) (f : ℕ) (talk : List (Entry L)) (k : Known L start f talk)
+    (xs : List (Text L)) (ra rb : List (Event L)) (x y : Half L) (u : ℕ) (s : Spent L (start A) (start B) f xs ra rb x y u) → begun L talk ≡ xs → Bounds L start f talk k s.n s.m → AllRead L x y ra rb
+    → All L talk ra rb × Settled L start f talk k x y u
+known-rest L start f talk (Ends v na nb ea eb k) xs ra rb x y u s e b rest =
+    (ends-all L start f talk v na nb ea eb k xs ra rb x y u s e rest, ends-settled L start f talk v na nb ea eb k xs ra rb x y u s e rest)
+known-rest L start f talk (Dries na nb ea eb k) xs ra rb x y u s e (p, q) rest = dries-by L start f talk na nb ea eb k xs ra rb x y u s e p q rest (dry-or L x) (dry-or L y)
+
+-- a message more, and a text more
+known-a : (L : Lang) (start : Sides L) (z : Fresh L start) (f : ℕ) (talk : List (Entry L)) (k : Known L start f talk)
+    (xs more : List (Text L)) (ra rb : List (Event L)) (x y : Half L) (u : ℕ) (e : Event L) (s : Spent L (start A) (start B) f xs ra rb x y u)
+    → Builds-a L (start A) (start B) s.n s.m xs more ra rb x y e → Quiets-a L (start A) (start B) s.n s.m xs ra rb x y e → begun L talk ≡ more → Bounds L start f talk k s.n s.m
+    → Bounds L start f talk k (s.n + (u - units L (drawing L u x e))) s.m
+known-a L start z f talk (Ends v na nb ea eb k) xs more ra rb x y u e s build quiets t b = tt
+known-a L start z f talk (Dries na nb ea eb k) xs more ra rb x y u e s build quiets t (p, q) =
+    (within-a L start z f talk na nb ea eb k xs more ra rb x y u e s build quiets t p q (apart na (s.n + (u - units L (drawing L u x e)))), q)
+
+known-b : (L : Lang) (start : Sides L) (z : Fresh L start) (f : ℕ) (talk : List (Entry L)) (k : Known L start f talk)
+    (xs more : List (Text L)) (ra rb : List (Event L)) (x y : Half L) (u : ℕ) (e : Event L) (s : Spent L (start A) (start B) f xs ra rb x y u)
+    → Builds-b L (start A) (start B) s.n s.m xs more ra rb x y e → Quiets-b L (start A) (start B) s.n s.m xs ra rb x y e → begun L talk ≡ more → Bounds L start f talk k s.n s.m
+    → Bounds L start f talk k s.n (s.m + (u - units L (drawing L u y e)))
+known-b L start z f talk (Ends v na nb ea eb k) xs more ra rb x y u e s build quiets t b = tt
+known-b L start z f talk (Dries na nb ea eb k) xs more ra rb x y u e s build quiets t (p, q) =
+    (p, within-b L start z f talk na nb ea eb k xs more ra rb x y u e s build quiets t p q (apart nb (s.m + (u - units L (drawing L u y e)))))
+
+may-settle : (L : Lang) (d : ℕ) (x e : Half L) → with_units L d x ≡ e → MayBegin L x → MayBegin L e
+may-settle L d x e h i = subst (MayBegin L) h (kept-may-begin L d x i)
+
+known-text : (L : Lang) (start : Sides L) (z : Fresh L start) (f : ℕ) (talk : List (Entry L)) (k : Known L start f talk)
+    (xs : List (Text L)) (ra rb : List (Event L)) (x y : Half L) (u : ℕ) (s : Spent L (start A) (start B) f xs ra rb x y u) → begun L talk ≡ xs → AllRead L x y ra rb
+    → Settled L start f talk k x y u → MayBegin L x → MayBegin L y
+    → (later : List (Entry L)) (l : Known L start f later) (t : Text L) → begun L later ≡ t ∷ xs → Bounds L start f later l s.n s.m
+known-text L start z f talk k xs ra rb x y u s e rest end i j later (Ends v na nb ea eb l) t g = tt
+known-text L start z f talk (Ends v ka kb da db k) xs ra rb x y u s e rest end i j later (Dries na nb ea eb l) t g =
+    before-text L start z f talk v ka kb da db k xs ra rb x y u s e rest later na nb ea eb l t g
+known-text L start z f talk (Dries ka kb da db k) xs ra rb x y u s e rest end i j later (Dries na nb ea eb l) t g =
+    absurd (k.none (may-settle L zero x da end.1 i) (may-settle L zero y db end.2 j))
+
+-- where the pair may begin a text, so may the one interpreter
+abbrev GoesOn : (L : Lang) (H : Heap L) → Course L H → Type 0
+GoesOn L H (Rests outs w u talk) = may_begin L outs ≡ true
+GoesOn L H (Leaves k w u talk) = ⊥
+GoesOn L H (Dry w talk) = ⊥
+
+both-true : (a b : Bool) → IsTrue a → IsTrue b → (a && b) ≡ true
+both-true true true h k = refl
+both-true false b h k = absurd cc
+both-true true false h k = absurd cc
+
+goes-on : (L : Lang) (H : Heap L) (outs : Two L.A) (w : H.W) (f : ℕ) (course : Course L H) (j : Joined L H (starts L H outs w) f course) (x y : Half L) (u : ℕ)
+    → Settled L (starts L H outs w) f (log_of L H course) (known L H outs w f course j) x y u → MayBegin L x → MayBegin L y → GoesOn L H course
+goes-on L H outs w f (Rests last v k talk) (n, m, sum, (p, q, c)) x y u (e, a, b) i j =
+    both-true (L.goes_on last.of_a) (L.goes_on last.of_b) (may-settle L k x (waits L H (Over last.of_a) A v talk k) a i) (may-settle L k y (waits L H (Over last.of_b) B v talk k) b j)
+goes-on L H outs w f (Leaves k v l talk) (A, n, m, p, sum, r, t, c) x y u (e, a, b) i j = may-settle L l x (fails L H (Beyond k) A v talk l) a i
+goes-on L H outs w f (Leaves k v l talk) (B, n, m, p, sum, r, t, c) x y u (e, a, b) i j = may-settle L l y (fails L H (Beyond k) B v talk l) b j
+goes-on L H outs w f (Dry v talk) (A, n, m, p, sum, r, t, c) x y u (e, a, b) i j = may-settle L zero x (fails L H OutOfFuel A v talk zero) a i
+goes-on L H outs w f (Dry v talk) (B, n, m, p, sum, r, t, c) x y u (e, a, b) i j = may-settle L zero y (fails L H OutOfFuel B v talk zero) b j
+
+next-begun : (L : Lang) (H : Heap L) (t : Text L) (course : Course L H) → GoesOn L H course → begun L (log_of L H (one_text L H t course)) ≡ t ∷ begun L (log_of L H course)
+next-begun L H t (Rests outs w u talk) g = text-begun L H t outs w u talk g
+next-begun L H t (Leaves k w u talk) g = absurd g
+next-begun L H t (Dry w talk) g = absurd g
+
+-- The pair and the one interpreter, kept together from event to event.
+record Held (L : Lang) (H : Heap L) (two : OneIsTwo L H) (outs : Two L.A) (w : H.W) (f : ℕ) (xs : List (Text L)) (ra rb : List (Event L)) (x y : Half L) (u : ℕ) : Type 0 where
+  spent : Spent L (starts L H outs w A) (starts L H outs w B) f xs ra rb x y u
+  texts : begun L (log_of L H (one L H outs w f xs)) ≡ xs
+  bounds : Bounds L (starts L H outs w) f (log_of L H (one L H outs w f xs)) (known L H outs w f (one L H outs w f xs) (two outs w f xs)) spent.n spent.m
+
+abbrev talk-of : (L : Lang) (H : Heap L) (outs : Two L.A) (w : H.W) (f : ℕ) (xs : List (Text L)) → List (Entry L)
+talk-of L H outs w f xs = log_of L H (one L H outs w f xs)
+
+abbrev known-of : (L : Lang) (H : Heap L) (two : OneIsTwo L H) (outs : Two L.A) (w : H.W) (f : ℕ) (xs : List (Text L)) → Known L (starts L H outs w) f (talk-of L H outs w f xs)
+known-of L H two outs w f xs = known L H outs w f (one L H outs w f xs) (two outs w f xs)
+
+held-rest : (L : Lang) (H : Heap L) (two : OneIsTwo L H) (outs : Two L.A) (w : H.W) (f : ℕ) (xs : List (Text L)) (ra rb : List (Event L)) (x y : Half L) (u : ℕ)
+    → Held L H two outs w f xs ra rb x y u → AllRead L x y ra rb
+    → All L (talk-of L H outs w f xs) ra rb × Settled L (starts L H outs w) f (talk-of L H outs w f xs) (known-of L H two outs w f xs) x y u
+held-rest L H two outs w f xs ra rb x y u h rest =
+    known-rest L (starts L H outs w) f (talk-of L H outs w f xs) (known-of L H two outs w f xs) xs ra rb x y u h.spent h.texts h.bounds rest
+
+held-takes-a : (L : Lang) (H : Heap L) (two : OneIsTwo L H) (outs : Two L.A) (w : H.W) (f : ℕ) (xs : List (Text L)) (ra rb : List (Event L)) (x y : Half L) (u : ℕ) (m : Message L)
+    → Held L H two outs w f xs ra rb x y u → Extends (sent L (written L y)) (m ∷ got L ra)
+    → Held L H two outs w f xs (Got m ∷ ra) rb (drawing L u x (Got m)) y (units L (drawing L u x (Got m)))
+held-takes-a L H two outs w f xs ra rb x y u m h ext =
+    let start : Sides L = starts L H outs w in
+    let build : Builds-a L (start A) (start B) h.spent.n h.spent.m xs xs ra rb x y (Got m) = takes-a L (start A) (start B) f xs ra rb x y u m h.spent ext in
+    record {
+      spent = step-a L (start A) (start B) f xs xs ra rb x y u (Got m) h.spent build;
+      texts = h.texts;
+      bounds = known-a L start (fresh L H outs w) f (talk-of L H outs w f xs) (known-of L H two outs w f xs) xs xs ra rb x y u (Got m) h.spent build
+          (quiets-read-a L start (fresh L H outs w) f xs ra rb x y u m h.spent ext) h.texts h.bounds;
+    }
+
+held-takes-b : (L : Lang) (H : Heap L) (two : OneIsTwo L H) (outs : Two L.A) (w : H.W) (f : ℕ) (xs : List (Text L)) (ra rb : List (Event L)) (x y : Half L) (u : ℕ) (m : Message L)
+    → Held L H two outs w f xs ra rb x y u → Extends (sent L (written L x)) (m ∷ got L rb)
+    → Held L H two outs w f xs ra (Got m ∷ rb) x (drawing L u y (Got m)) (units L (drawing L u y (Got m)))
+held-takes-b L H two outs w f xs ra rb x y u m h ext =
+    let start : Sides L = starts L H outs w in
+    let build : Builds-b L (start A) (start B) h.spent.n h.spent.m xs xs ra rb x y (Got m) = takes-b L (start A) (start B) f xs ra rb x y u m h.spent ext in
+    record {
+      spent = step-b L (start A) (start B) f xs xs ra rb x y u (Got m) h.spent build;
+      texts = h.texts;
+      bounds = known-b L start (fresh L H outs w) f (talk-of L H outs w f xs) (known-of L H two outs w f xs) xs xs ra rb x y u (Got m) h.spent build
+          (quiets-read-b L start (fresh L H outs w) f xs ra rb x y u m h.spent ext) h.texts h.bounds;
+    }
+
+held-next : (L : Lang) (H : Heap L) (two : OneIsTwo L H) (outs : Two L.A) (w : H.W) (f : ℕ) (xs : List (Text L)) (ra rb : List (Event L)) (x y : Half L) (u : ℕ) (t : Text L)
+    → Held L H two outs w f xs ra rb x y u → AllRead L x y ra rb → MayBegin L x → MayBegin L y → begun L (talk-of L H outs w f (t ∷ xs)) ≡ t ∷ xs
+held-next L H two outs w f xs ra rb x y u t h rest i j =
+    next-begun L H t (one L H outs w f xs) (goes-on L H outs w f (one L H outs w f xs) (two outs w f xs) x y u (held-rest L H two outs w f xs ra rb x y u h rest).1 i j)
+    ∙ ap (λ l. t ∷ l) h.texts
+
+held-bounds : (L : Lang) (H : Heap L) (two : OneIsTwo L H) (outs : Two L.A) (w : H.W) (f : ℕ) (xs : List (Text L)) (ra rb : List (Event L)) (x y : Half L) (u : ℕ) (t : Text L)
+    (h : Held L H two outs w f xs ra rb x y u) → AllRead L x y ra rb → MayBegin L x → MayBegin L y → begun L (talk-of L H outs w f (t ∷ xs)) ≡ t ∷ xs
+    → Bounds L (starts L H outs w) f (talk-of L H outs w f (t ∷ xs)) (known-of L H two outs w f (t ∷ xs)) h.spent.n h.spent.m
+held-bounds L H two outs w f xs ra rb x y u t h rest i j e =
+    known-text L (starts L H outs w) (fresh L H outs w) f (talk-of L H outs w f xs) (known-of L H two outs w f xs) xs ra rb x y u h.spent h.texts rest
+    (held-rest L H two outs w f xs ra rb x y u h rest).1 i j (talk-of L H outs w f (t ∷ xs)) (known-of L H two outs w f (t ∷ xs)) t e
+
+held-starts-a : (L : Lang) (H : Heap L) (two : OneIsTwo L H) (outs : Two L.A) (w : H.W) (f : ℕ) (xs : List (Text L)) (ra rb : List (Event L)) (x y : Half L) (u : ℕ) (t : TreeOf L)
+    → Held L H two outs w f xs ra rb x y u → AllRead L x y ra rb → MayBegin L x → MayBegin L y
+    → Held L H two outs w f (record { side = A; tree = t } ∷ xs) (Begin t ∷ ra) rb (drawing L u x (Begin t)) y (units L (drawing L u x (Begin t)))
+held-starts-a L H two outs w f xs ra rb x y u t h rest i j =
+    let start : Sides L = starts L H outs w in
+    let text : Text L = record { side = A; tree = t } in
+    let texts : begun L (talk-of L H outs w f (text ∷ xs)) ≡ text ∷ xs = held-next L H two outs w f xs ra rb x y u text h rest i j in
+    let build : Builds-a L (start A) (start B) h.spent.n h.spent.m xs (text ∷ xs) ra rb x y (Begin t) = starts-a L (start A) (start B) f xs ra rb x y u t h.spent rest i j in
+    record {
+      spent = step-a L (start A) (start B) f xs (text ∷ xs) ra rb x y u (Begin t) h.spent build;
+      texts = texts;
+      bounds = known-a L start (fresh L H outs w) f (talk-of L H outs w f (text ∷ xs)) (known-of L H two outs w f (text ∷ xs)) xs (text ∷ xs) ra rb x y u (Begin t) h.spent build
+          (quiets-text-a L start f xs ra rb x y u t h.spent rest) texts (held-bounds L H two outs w f xs ra rb x y u text h rest i j texts);
+    }
+
+held-starts-b : (L : Lang) (H : Heap L) (two : OneIsTwo L H) (outs : Two L.A) (w : H.W) (f : ℕ) (xs : List (Text L)) (ra rb : List (Event L)) (x y : Half L) (u : ℕ) (t : TreeOf L)
+    → Held L H two outs w f xs ra rb x y u → AllRead L x y ra rb → MayBegin L x → MayBegin L y
+    → Held L H two outs w f (record { side = B; tree = t } ∷ xs) ra (Begin t ∷ rb) x (drawing L u y (Begin t)) (units L (drawing L u y (Begin t)))
+held-starts-b L H two outs w f xs ra rb x y u t h rest i j =
+    let start : Sides L = starts L H outs w in
+    let text : Text L = record { side = B; tree = t } in
+    let texts : begun L (talk-of L H outs w f (text ∷ xs)) ≡ text ∷ xs = held-next L H two outs w f xs ra rb x y u text h rest i j in
+    let build : Builds-b L (start A) (start B) h.spent.n h.spent.m xs (text ∷ xs) ra rb x y (Begin t) = starts-b L (start A) (start B) f xs ra rb x y u t h.spent rest i j in
+    record {
+      spent = step-b L (start A) (start B) f xs (text ∷ xs) ra rb x y u (Begin t) h.spent build;
+      texts = texts;
+      bounds = known-b L start (fresh L H outs w) f (talk-of L H outs w f (text ∷ xs)) (known-of L H two outs w f (text ∷ xs)) xs (text ∷ xs) ra rb x y u (Begin t) h.spent build
+          (quiets-text-b L start f xs ra rb x y u t h.spent rest) texts (held-bounds L H two outs w f xs ra rb x y u text h rest i j texts);
+    }
+
+opened-bounds : (L : Lang) (H : Heap L) (outs : Two L.A) (w : H.W) (f : ℕ) (j : Joined L H (starts L H outs w) f (Rests outs w f []))
+    → Bounds L (starts L H outs w) f [] (known L H outs w f (Rests outs w f []) j) zero zero
+opened-bounds L H outs w f (n, m, sum, (p, q, c)) = tt
+
+held : (L : Lang) (H : Heap L) (two : OneIsTwo L H) (outs : Two L.A) (w : H.W) (f : ℕ) {xs : List (Text L)} {ra rb : List (Event L)} {x y : Half L} {u : ℕ}
+    → Drawn L (starts L H outs w A f) (starts L H outs w B f) f xs ra rb x y u → Held L H two outs w f xs ra rb x y u
+held L H two outs w f Opened =
+    let z : Fresh L (starts L H outs w) = fresh L H outs w in
+    record { spent = opened L (starts L H outs w A) (starts L H outs w B) f (z.same A) (z.same B) (z.fuel A) (z.fuel B); texts = refl; bounds = opened-bounds L H outs w f (two outs w f []) }
+held L H two outs w f (A_takes {xs = xs} {ra = ra} {rb = rb} {x = x} {y = y} {u = u} m r ext) = held-takes-a L H two outs w f xs ra rb x y u m (held L H two outs w f r) ext
+held L H two outs w f (B_takes {xs = xs} {ra = ra} {rb = rb} {x = x} {y = y} {u = u} m r ext) = held-takes-b L H two outs w f xs ra rb x y u m (held L H two outs w f r) ext
+held L H two outs w f (A_starts {xs = xs} {ra = ra} {rb = rb} {x = x} {y = y} {u = u} t r rest i j) = held-starts-a L H two outs w f xs ra rb x y u t (held L H two outs w f r) rest i j
+held L H two outs w f (B_starts {xs = xs} {ra = ra} {rb = rb} {x = x} {y = y} {u = u} t r rest i j) = held-starts-b L H two outs w f xs ra rb x y u t (held L H two outs w f r) rest i j
+
+-- the law of pairs
+pub pair_ends_as_one : (L : Lang) (H : Heap L) → OneIsTwo L H → PairEndsAsOne L H
+pair_ends_as_one L H two outs w f xs ra rb x y u r =
+    let h : Held L H two outs w f xs ra rb x y u = held L H two outs w f r in
+    let talk : List (Entry L) = talk-of L H outs w f xs in
+    let start : Sides L = starts L H outs w in
+    let g : Follows L (start A (h.spent.n + zero)) (start B (h.spent.m + zero)) talk ra rb =
+        known-follow L start (fresh L H outs w) f talk (known-of L H two outs w f xs) xs ra rb x y u h.spent h.texts h.bounds in
+    record {
+      texts = h.texts;
+      a_reads = g.0;
+      b_reads = g.1;
+      a_writes = subst (λ l. Extends (wrote L A talk) l) (written-a L (start A) h.spent.n ra x zero h.spent.bought_a (λ i. refl)) g.2;
+      b_writes = subst (λ l. Extends (wrote L B talk) l) (written-a L (start B) h.spent.m rb y zero h.spent.bought_b (λ i. refl)) g.3;
+      ends = λ rest.
+          let end : All L talk ra rb × Settled L start f talk (known-of L H two outs w f xs) x y u = held-rest L H two outs w f xs ra rb x y u h rest in
+          (end.0.0, end.0.1, ends-with L H outs w f (one L H outs w f xs) (two outs w f xs) x y u end.1);
+    }
