@@ -7,6 +7,7 @@ pub mod InTurnLaw
 pub mod Lists
 pub mod OlderEnds
 pub mod OneInFlight
+pub mod PairRestLaw
 pub mod RestLaw
 pub mod SharedUnitsLaw
 pub mod TalkLists

@@ -638,6 +638,10 @@ held L H two outs w f (B_takes {xs = xs} {ra = ra} {rb = rb} {x = x} {y = y} {u 
 held L H two outs w f (A_starts {xs = xs} {ra = ra} {rb = rb} {x = x} {y = y} {u = u} t r rest i j) = held-starts-a L H two outs w f xs ra rb x y u t (held L H two outs w f r) rest i j
 held L H two outs w f (B_starts {xs = xs} {ra = ra} {rb = rb} {x = x} {y = y} {u = u} t r rest i j) = held-starts-b L H two outs w f xs ra rb x y u t (held L H two outs w f r) rest i j
 
+pub spent-of : (L : Lang) (H : Heap L) (two : OneIsTwo L H) (outs : Two L.A) (w : H.W) (f : ℕ) {xs : List (Text L)} {ra rb : List (Event L)} {x y : Half L} {u : ℕ}
+    → Drawn L (starts L H outs w A f) (starts L H outs w B f) f xs ra rb x y u → Spent L (starts L H outs w A) (starts L H outs w B) f xs ra rb x y u
+spent-of L H two outs w f r = (held L H two outs w f r).spent
+
 -- the law of pairs
 pub pair_ends_as_one : (L : Lang) (H : Heap L) → OneIsTwo L H → PairEndsAsOne L H
 pair_ends_as_one L H two outs w f xs ra rb x y u r =
