@@ -1,11 +1,11 @@
 -- Two sides that share their units come to rest, and for each course there is such a pair.
-use Rattle.std.proofs.Common.{◌≡◌, List, [], ◌∷◌, ◌++◌, ℕ, zero, suc, ◌+◌, ◌*◌, ◌<◌, ◌≤◌, Bool, true, false, ◌&&◌, refl, sym, ap, ◌∙◌, subst, arith}
-use Rattle.std.specs.Prelude.{length, IsTrue}
-use Rattle.side_trees.specs.Sides.{Lang, TreeOf, Message, Event, Got, Begin, Over, Await, Half, Going, Failed, half, written, units, got, sent}
+use Rattle.std.proofs.Common.{◌≡◌, List, [], ◌∷◌, ℕ, zero, suc, ◌+◌, ◌*◌, ◌≤◌, Bool, true, false, ◌&&◌, refl, sym, ap, ◌∙◌, subst, arith}
+use Rattle.std.specs.Prelude.{length}
+use Rattle.side_trees.specs.Sides.{Lang, TreeOf, Event, Got, Begin, Over, Await, Half, Going, Failed, written, units, got, sent}
 use Rattle.side_trees.specs.SharedRun.{Side, A, B, Two, part, Heap, Entry, Text, begun, Course, Rests, Leaves, Dry, log_of, may_begin, text_if, one_text, one}
 use Rattle.side_trees.specs.Growing.{Extends}
-use Rattle.side_trees.specs.Joining.{starts, waits, MayBegin, OneIsTwo}
-use Rattle.side_trees.specs.SharedUnits.{with_units, drawing, AllRead, Drawn, Opened, A_takes, B_takes, A_starts, B_starts, EndsWith, Shares, PairRests, PairComes}
+use Rattle.side_trees.specs.Joining.{starts, MayBegin, OneIsTwo}
+use Rattle.side_trees.specs.SharedUnits.{with_units, drawing, AllRead, Drawn, Opened, A_takes, B_takes, A_starts, B_starts, EndsWith, PairRests, PairComes}
 use Rattle.side_trees.proofs.Lists.{extends-same, extends-one, extends-trans}
 use Rattle.side_trees.proofs.OlderEnds.{extends-none, Unread, None, More, unread}
 use Rattle.side_trees.proofs.RestLaw.{resting, read-was-written, Written}
@@ -32,7 +32,7 @@ pair-written : (L : Lang) (H : Heap L) (two : OneIsTwo L H) (outs : Two L.A) (w 
 pair-written L H two outs w f {xs} {ra} {rb} {x} {y} {u} r =
     let s : Spent L (starts L H outs w A) (starts L H outs w B) f xs ra rb x y u = spent-of L H two outs w f r in
     let g : Written L (starts L H outs w A (s.n + zero)) (starts L H outs w B (s.m + zero)) ra rb =
-        read-was-written L (starts L H outs w A (s.n + zero)) (starts L H outs w B (s.m + zero)) (s.reached zero zero (λ h. refl) (λ h. refl)) in (
+    read-was-written L (starts L H outs w A (s.n + zero)) (starts L H outs w B (s.m + zero)) (s.reached zero zero (λ h. refl) (λ h. refl)) in (
       subst (λ l. Extends (sent L l) (got L ra)) (written-a L (starts L H outs w B) s.m rb y zero s.bought_b (λ h. refl)) g.0,
       subst (λ l. Extends (sent L l) (got L rb)) (written-a L (starts L H outs w A) s.n ra x zero s.bought_a (λ h. refl)) g.1,
     )

@@ -1,16 +1,16 @@
 -- Two sides that draw their units from one number end as the one interpreter does with that number.
-use Rattle.std.proofs.Common.{◌≡◌, List, [], ◌∷◌, ◌++◌, ℕ, zero, suc, ◌+◌, ◌-◌, ◌<◌, ◌≤◌, Bool, true, false, ◌&&◌, refl, sym, ap, ◌∙◌, subst, arith}
+use Rattle.std.proofs.Common.{◌≡◌, List, [], ◌∷◌, ℕ, zero, suc, ◌+◌, ◌-◌, ◌≤◌, Bool, true, false, ◌&&◌, refl, sym, ap, ◌∙◌, subst, arith}
 use Rattle.std.specs.Prelude.{⊤, IsTrue}
-use Rattle.side_trees.specs.Sides.{Lang, TreeOf, Message, Event, Got, Begin, Pending, Over, Await, Failure, OutOfFuel, Beyond, Broken, Half, Going, Failed, react, half, written, units, got, sent}
-use Rattle.side_trees.specs.SharedRun.{Side, A, B, other, Two, part, Heap, Entry, Text, wrote, heard, begun, Course, Rests, Leaves, Dry, log_of, may_begin, one_text, one}
+use Rattle.side_trees.specs.Sides.{Lang, TreeOf, Message, Event, Got, Begin, Over, OutOfFuel, Beyond, Broken, Half, Going, Failed, react, half, written, units, got, sent}
+use Rattle.side_trees.specs.SharedRun.{Side, A, B, Two, part, Heap, Entry, Text, wrote, heard, begun, Course, Rests, Leaves, Dry, log_of, may_begin, one_text, one}
 use Rattle.side_trees.specs.Growing.{Extends, WithMore}
-use Rattle.side_trees.specs.Joining.{Sides, starts, waits, fails, pick, MayBegin, Joined, OneIsTwo}
+use Rattle.side_trees.specs.Joining.{Sides, starts, waits, fails, MayBegin, Joined, OneIsTwo}
 use Rattle.side_trees.specs.Schedules.{Quiet, HasFuel, Reached, Begun, A_reads, B_reads, A_begins, B_begins, Follows, All, Schedules, AnyUnits}
-use Rattle.side_trees.specs.SharedUnits.{with_units, drawing, AllRead, Drawn, Opened, A_takes, B_takes, A_starts, B_starts, EndsWith, Shares, PairEndsAsOne}
+use Rattle.side_trees.specs.SharedUnits.{with_units, drawing, AllRead, Drawn, Opened, A_takes, B_takes, A_starts, B_starts, EndsWith, PairEndsAsOne}
 use Rattle.side_trees.proofs.GrowthLaw.{half-in_turn, half-spends, half-more}
 use Rattle.side_trees.proofs.EverySchedule.{More, follows-of, any-units-at, ends-at, runs-out-at}
 use Rattle.side_trees.proofs.InTurnLaw.{text-begun}
-use Rattle.side_trees.proofs.DrawnUnits.{IsDry, Apart, AtLeast, Below, apart, DryOr, Is, IsNot, dry-or, Bought, bought-on, kept-written, kept-units, kept-may-begin, kept-dry, dry-kept, drawing-spends, Spent, written-a, Builds-a, Builds-b, step-a, step-b, takes-a, takes-b, starts-a, starts-b, opened, quiet-at-spent, reads-at}
+use Rattle.side_trees.proofs.DrawnUnits.{IsDry, Apart, AtLeast, Below, apart, DryOr, Is, IsNot, dry-or, Bought, bought-on, kept-units, kept-may-begin, kept-dry, dry-kept, Spent, written-a, Builds-a, Builds-b, step-a, step-b, takes-a, takes-b, starts-a, starts-b, opened, quiet-at-spent, reads-at}
 use Rattle.side_trees.proofs.OneInFlight.{quiet-when-dry-a, quiet-when-dry-b, quiet-when-text-dry-a, quiet-when-text-dry-b}
 
 -- a side that is out of fuel stays so, and units only fall
@@ -189,7 +189,7 @@ not-dry L mine theirs n m n' m' v f u r s hm ho x y e e' sum sum' b b' none i j 
     let falls : units L (half L (theirs (m + zero)) ho) ≤ units L (half L (theirs (m + zero)) s) = units-fall L (theirs (m + zero)) ho s j in
     let end : units L (half L (theirs (m + zero)) s) ≡ zero = ap (units L) (b' zero (λ h. refl)) ∙ kept-units L zero y in
     let over : units L (half L (theirs (m + zero)) ho) ≡ v + suc c =
-        ap (λ l. units L (half L (theirs l) ho)) (the-other-more n m u n' m' v f c sum sum' (none dry) k) ∙ ap (units L) (at' (v + suc c)) ∙ left (v + suc c) in
+    ap (λ l. units L (half L (theirs l) ho)) (the-other-more n m u n' m' v f c sum sum' (none dry) k) ∙ ap (units L) (at' (v + suc c)) ∙ left (v + suc c) in
     not-left v c (units L (half L (theirs (m + zero)) ho)) over (subst (λ k. units L (half L (theirs (m + zero)) ho) ≤ k) end falls)
 
 -- the schedule with what each side spent
@@ -293,13 +293,14 @@ dries-settled-at : (L : Lang) (start : Sides L) (f : ℕ) (talk : List (Entry L)
     → All L talk ra rb × Settled L start f talk (Dries na nb ea eb k) x y u
 dries-settled-at L start f talk na nb ea eb k xs ra rb x y u s e rest i j h l p q =
     let r : Reached L (start A na) (start B nb) (begun L talk) ra rb =
-        subst (λ t. Reached L (start A na) (start B nb) t ra rb) (sym e) (there L start s.n s.m i j na nb xs ra rb p q (s.reached i j h l)) in
+    subst (λ t. Reached L (start A na) (start B nb) t ra rb) (sym e) (there L start s.n s.m i j na nb xs ra rb p q (s.reached i j h l)) in
     let quiet : Quiet L (start A na) (start B nb) ra rb =
-        quiet-there L start s.n s.m i j na nb ra rb p q (quiet-at-spent L (start A) (start B) f xs ra rb x y u s i j h l rest) in
+    quiet-there L start s.n s.m i j na nb ra rb p q (quiet-at-spent L (start A) (start B) f xs ra rb x y u s i j h l rest) in
     let end : All L talk ra rb × (half L (start A na) ra ≡ ea) × (half L (start B nb) rb ≡ eb) = (k.all.2 ra rb r).1 quiet in
     let a : i ≡ zero = none-over L (start A) s.n i na ra x ea p s.bought_a h end.1 k.left_a in
     let b : j ≡ zero = none-over L (start B) s.m j nb rb y eb q s.bought_b l end.2 k.left_b in (
-      end.0, (
+      end.0,
+      (
         all-spent s.n s.m u i j f na nb s.sum k.sum p q a b,
         sym (ap (λ d. with_units L d x) a) ∙ sym (s.bought_a i h) ∙ ap (λ d. half L (start A d) ra) p ∙ end.1,
         sym (ap (λ d. with_units L d y) b) ∙ sym (s.bought_b j l) ∙ ap (λ d. half L (start B d) rb) q ∙ end.2,
@@ -375,11 +376,11 @@ within-a L start z f talk na nb ea eb k xs more ra rb x y u e s build quiets t p
     let r : Reached L (start A (s.n + i)) (start B (s.m + j)) xs ra rb = s.reached i j h g in
     let dry : IsDry L (half L (start A na) (e ∷ ra)) = ran-out L start z A (s.n + (u - v)) na c (e ∷ ra) (drawing L u x e) l (bought-on L (start A) s.n u ra x e s.dry_a s.bought_a) in
     let quiet : Quiet L (start A (s.n + i)) (start B (s.m + j)) (e ∷ ra) rb =
-        quiets i j h g r (subst (λ d. IsDry L (half L (start A d) (e ∷ ra))) (sym (up-to s.n na p)) dry) in
+    quiets i j h g r (subst (λ d. IsDry L (half L (start A d) (e ∷ ra))) (sym (up-to s.n na p)) dry) in
     let end : All L talk (e ∷ ra) rb × (half L (start A na) (e ∷ ra) ≡ ea) × (half L (start B nb) rb ≡ eb) =
-        (k.all.2 (e ∷ ra) rb (subst (λ d. Reached L (start A na) (start B nb) d (e ∷ ra) rb) (sym t)
-        (there L start s.n s.m i j na nb more (e ∷ ra) rb (up-to s.n na p) (up-to s.m nb q) (build i j h g r)))).1
-        (quiet-there L start s.n s.m i j na nb (e ∷ ra) rb (up-to s.n na p) (up-to s.m nb q) quiet) in
+    (k.all.2 (e ∷ ra) rb (subst (λ d. Reached L (start A na) (start B nb) d (e ∷ ra) rb) (sym t)
+    (there L start s.n s.m i j na nb more (e ∷ ra) rb (up-to s.n na p) (up-to s.m nb q) (build i j h g r)))).1
+    (quiet-there L start s.n s.m i j na nb (e ∷ ra) rb (up-to s.n na p) (up-to s.m nb q) quiet) in
     let none : j ≡ zero = none-over L (start B) s.m j nb rb y eb (up-to s.m nb q) s.bought_b g end.2 k.left_b in
     absurd (no-excess s.n s.m u v j f na nb c s.sum k.sum (up-to s.m nb q) none l)
 
@@ -397,11 +398,11 @@ within-b L start z f talk na nb ea eb k xs more ra rb x y u e s build quiets t p
     let r : Reached L (start A (s.n + i)) (start B (s.m + j)) xs ra rb = s.reached i j h g in
     let dry : IsDry L (half L (start B nb) (e ∷ rb)) = ran-out L start z B (s.m + (u - v)) nb c (e ∷ rb) (drawing L u y e) l (bought-on L (start B) s.m u rb y e s.dry_b s.bought_b) in
     let quiet : Quiet L (start A (s.n + i)) (start B (s.m + j)) ra (e ∷ rb) =
-        quiets i j h g r (subst (λ d. IsDry L (half L (start B d) (e ∷ rb))) (sym (up-to s.m nb q)) dry) in
+    quiets i j h g r (subst (λ d. IsDry L (half L (start B d) (e ∷ rb))) (sym (up-to s.m nb q)) dry) in
     let end : All L talk ra (e ∷ rb) × (half L (start A na) ra ≡ ea) × (half L (start B nb) (e ∷ rb) ≡ eb) =
-        (k.all.2 ra (e ∷ rb) (subst (λ d. Reached L (start A na) (start B nb) d ra (e ∷ rb)) (sym t)
-        (there L start s.n s.m i j na nb more ra (e ∷ rb) (up-to s.n na p) (up-to s.m nb q) (build i j h g r)))).1
-        (quiet-there L start s.n s.m i j na nb ra (e ∷ rb) (up-to s.n na p) (up-to s.m nb q) quiet) in
+    (k.all.2 ra (e ∷ rb) (subst (λ d. Reached L (start A na) (start B nb) d ra (e ∷ rb)) (sym t)
+    (there L start s.n s.m i j na nb more ra (e ∷ rb) (up-to s.n na p) (up-to s.m nb q) (build i j h g r)))).1
+    (quiet-there L start s.n s.m i j na nb ra (e ∷ rb) (up-to s.n na p) (up-to s.m nb q) quiet) in
     let none : i ≡ zero = none-over L (start A) s.n i na ra x ea (up-to s.n na p) s.bought_a h end.1 k.left_a in
     absurd (no-excess s.m s.n u v i f nb na c (swap-sum s.n s.m u f s.sum) (swap-two na nb f k.sum) (up-to s.n na p) none l)
 
@@ -461,8 +462,8 @@ before-text : (L : Lang) (start : Sides L) (z : Fresh L start) (f : ℕ) (talk :
 before-text L start z f talk v ka kb da db k xs ra rb x y u s e rest later na nb ea eb l t i =
     let p : Point L (start A na) (start B nb) xs = point L (start A na) (start B nb) t xs l.all.0 i in
     let then : All L talk p.ra p.rb =
-        (k.any na nb p.ra p.rb (subst (λ d. Reached L (start A na) (start B nb) d p.ra p.rb) (sym e) p.reached)).1 p.quiet
-        (fuel-of L (half L (start A na) p.ra) (may-not-dry L (half L (start A na) p.ra) p.may_a)) (fuel-of L (half L (start B nb) p.rb) (may-not-dry L (half L (start B nb) p.rb) p.may_b)) in
+    (k.any na nb p.ra p.rb (subst (λ d. Reached L (start A na) (start B nb) d p.ra p.rb) (sym e) p.reached)).1 p.quiet
+    (fuel-of L (half L (start A na) p.ra) (may-not-dry L (half L (start A na) p.ra) p.may_a)) (fuel-of L (half L (start B nb) p.rb) (may-not-dry L (half L (start B nb) p.rb) p.may_b)) in
     let now : All L talk ra rb = ends-all L start f talk v ka kb da db k xs ra rb x y u s e rest in (
       before-at L start z A s.n na ra p.ra x (then.0 ∙ sym now.0) s.bought_a p.may_a (apart na s.n),
       before-at L start z B s.m nb rb p.rb y (then.1 ∙ sym now.1) s.bought_b p.may_b (apart nb s.m),
@@ -649,7 +650,7 @@ pair_ends_as_one L H two outs w f xs ra rb x y u r =
     let talk : List (Entry L) = talk-of L H outs w f xs in
     let start : Sides L = starts L H outs w in
     let g : Follows L (start A (h.spent.n + zero)) (start B (h.spent.m + zero)) talk ra rb =
-        known-follow L start (fresh L H outs w) f talk (known-of L H two outs w f xs) xs ra rb x y u h.spent h.texts h.bounds in
+    known-follow L start (fresh L H outs w) f talk (known-of L H two outs w f xs) xs ra rb x y u h.spent h.texts h.bounds in
     record {
       texts = h.texts;
       a_reads = g.0;

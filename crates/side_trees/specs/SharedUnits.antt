@@ -1,7 +1,7 @@
 -- Law 3 for two sides that draw their units from one number.
 use Rattle.std.specs.Prelude.{List, [], ◌∷◌, ℕ, zero, ◌≡◌}
-use Rattle.side_trees.specs.Sides.{Lang, TreeOf, Message, Event, Got, Begin, Pending, Over, Failure, OutOfFuel, Beyond, Half, Going, Failed, react, written, units, got, sent}
-use Rattle.side_trees.specs.SharedRun.{Side, A, B, other, Two, Heap, Entry, Text, wrote, heard, begun, Course, Rests, Leaves, Dry, log_of, one}
+use Rattle.side_trees.specs.Sides.{Lang, TreeOf, Message, Event, Got, Begin, Pending, Over, OutOfFuel, Beyond, Half, Going, Failed, react, written, units, got, sent}
+use Rattle.side_trees.specs.SharedRun.{Side, A, B, other, Two, Heap, Text, wrote, heard, begun, Course, Rests, Leaves, Dry, log_of, one}
 use Rattle.side_trees.specs.Growing.{Extends}
 use Rattle.side_trees.specs.Joining.{starts, waits, fails, pick, MayBegin}
 

@@ -4,5 +4,8 @@
 mod every_schedule;
 mod growth;
 
-pub use every_schedule::{every_schedule_ends_as_one, every_schedule_rests, pair_comes_to_rest, pair_ends_as_one, texts_begin_in_turn};
+pub use every_schedule::{
+    every_schedule_ends_as_one, every_schedule_rests, pair_comes_to_rest, pair_ends_as_one,
+    texts_begin_in_turn,
+};
 pub use growth::a_side_grows;
