@@ -7,7 +7,8 @@ use Rattle.side_trees.specs.SharedRun.{Side, A, B, other, Two, part, Heap, Entry
 use Rattle.side_trees.specs.Growing.{Extends}
 use Rattle.side_trees.specs.Joining.{Sides, starts, Comes, waits, MayBegin, Causal, CausalAt, Joined, OneIsTwo}
 use Rattle.side_trees.proofs.GrowthLaw.{go-extends}
-use Rattle.side_trees.proofs.TreeLaws.{bind-return, bind-bind, both-bind}
+use Rattle.side_trees.proofs.BindLaw.{bind-return, bind-bind}
+use Rattle.side_trees.proofs.HomeTrees.{both-bind}
 
 -- The continuations that are pending while the one interpreter runs at a side, innermost first. They alternate between the sides, since a side that runs under another serves it.
 data Stack (L : Lang) : Type 0 where
@@ -35,11 +36,6 @@ Meeting L H start b h j t w talk n m =
     Comes L start h n talk (λ d. go L (hold L b j).0 d t (H.seen_by h w) (wrote L h talk))
     × Comes L start (other h) m talk (waits L H (hold L b j).1 (other h) w talk)
     × CausalAt L start h n m talk
-
--- the order of the two sides' units does not matter
-turned : (L : Lang) (start : Sides L) (h : Side) (n m : ℕ) (talk : List (Entry L)) → CausalAt L start h n m talk → CausalAt L start (other h) m n talk
-turned L start A n m talk causal = causal
-turned L start B n m talk causal = causal
 
 -- an item put by the side that runs
 put-causal : (L : Lang) (start : Sides L) (h : Side) (n m : ℕ) (i : Item L) (talk : List (Entry L)) → CausalAt L start h n m talk

@@ -1,5 +1,8 @@
+pub mod Counts
+pub mod FreeMessages
 pub mod Growing
 pub mod Joining
+pub mod Numbers
 pub mod Resting
 pub mod Schedules
 pub mod SharedRun

@@ -1,5 +1,5 @@
 -- A small language as an instance: counters as cells, functions that call back, a loop that drains a counter of either side until it raises.
-use Rattle.std.specs.Prelude.{Bool, true, false, List, [], ◌∷◌, ◌++◌, length, ℕ, zero, suc, ◌≡◌}
+use Rattle.std.specs.Prelude.{Bool, true, false, List, [], ◌∷◌, ◌++◌, length, ℕ, zero, suc, ◌≡◌, Option, None, Some}
 use Rattle.std.proofs.Common.{refl, ap}
 use Rattle.side_trees.specs.Trees.{Tree, Return, Act, Tell, Stop, Spend, Do, Ask}
 use Rattle.side_trees.specs.Sides.{Lang}
@@ -37,7 +37,7 @@ pub data Way : Type 0 where
 
 -- Says n prints n. Counts k takes a step of the own counter k. Makes n makes a counter of n steps. Calls f v is the own function f with v.
 -- Drains v takes steps of v until it raises, Drained v o goes on with it after the answer o, Borrows n drains a new counter of the other side (Borrowed o once it is there).
--- Lends n f calls the other side's function f with a new own counter, Asks q asks, Hands o gives o, Then c d is c and then d, Leaves leaves the subset.
+-- Lends n f calls the other side's function f with a new own counter, Asks q asks, Hands o gives o, Then c d is c and then d.
 pub data Code : Type 0 where
   Says Counts Makes Borrows : ℕ → Code
   Calls : ℕ → Value → Code
@@ -48,16 +48,15 @@ pub data Code : Type 0 where
   Hands : Outcome → Code
   Borrowed : Outcome → Code
   Then : Code → Code → Code
-  Leaves : Code
 
 abbrev pub ToyTree : Type 0
 ToyTree = Tree Code (List ℕ) Question Outcome Way ℕ
 
--- the k-th counter, and the counters after its step
-abbrev pub steps_left : ℕ → List ℕ → ℕ
-steps_left k [] = zero
-steps_left zero (n ∷ ns) = n
-steps_left (suc k) (n ∷ ns) = steps_left k ns
+-- the steps left of the k-th counter, and the counters after its step
+abbrev pub counter : ℕ → List ℕ → Option ℕ
+counter k [] = None
+counter zero (n ∷ ns) = Some n
+counter (suc k) (n ∷ ns) = counter k ns
 
 abbrev pub stepped : ℕ → List ℕ → List ℕ
 stepped k [] = []
@@ -65,10 +64,11 @@ stepped zero (zero ∷ ns) = zero ∷ ns
 stepped zero (suc n ∷ ns) = n ∷ ns
 stepped (suc k) (n ∷ ns) = n ∷ stepped k ns
 
--- what a step gives: the steps that are left, or an exception
-abbrev pub step_of : ℕ → Outcome
-step_of zero = Raises zero
-step_of (suc n) = Gives (Int n)
+-- a step gives the steps that are left, or raises; a counter that is not there is outside the subset
+abbrev pub step_of : Option ℕ → ToyTree
+step_of None = Stop Left
+step_of (Some zero) = Return (Raises zero)
+step_of (Some (suc n)) = Return (Gives (Int n))
 
 -- one step of v, at home or asked of the other side, and on with the loop
 abbrev pub drain : Value → ToyTree
@@ -95,7 +95,7 @@ body (suc f) v = Tell (suc f) (Ask (Call f v) (λ o. Hands o) (λ o. Return o))
 
 abbrev pub rules : Code → ToyTree
 rules (Says n) = Tell n (Return (Gives (Int zero)))
-rules (Counts k) = Act (stepped k) (λ ns. Return (step_of (steps_left k ns)))
+rules (Counts k) = Act (stepped k) (λ ns. step_of (counter k ns))
 rules (Makes n) = Act (λ ns. ns ++ (n ∷ [])) (λ ns. Return (Gives (Own (length ns))))
 rules (Borrows n) = Ask (Make n) (λ o. Borrowed o) (λ o. Return o)
 rules (Calls f v) = body f v
@@ -106,7 +106,6 @@ rules (Asks q) = Ask q (λ o. Hands o) (λ o. Return o)
 rules (Hands o) = Return o
 rules (Borrowed o) = with_value drain o
 rules (Then c d) = Spend c (with_value (λ v. Spend d (λ o. Return o)))
-rules Leaves = Stop Left
 
 -- how a value crosses: what is mine for the sender is far for the receiver
 abbrev pub boxed : Value → Boxed
