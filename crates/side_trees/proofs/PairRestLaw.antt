@@ -8,7 +8,7 @@ use Rattle.side_trees.specs.Joining.{starts, MayBegin, OneIsTwo}
 use Rattle.side_trees.specs.SharedUnits.{with_units, drawing, AllRead, Drawn, Opened, A_takes, B_takes, A_starts, B_starts, EndsWith, PairRests, PairComes}
 use Rattle.side_trees.proofs.Lists.{extends-same, extends-one, extends-trans}
 use Rattle.side_trees.proofs.OlderEnds.{extends-none, Unread, None, More, unread}
-use Rattle.side_trees.proofs.RestLaw.{resting, read-was-written, Written}
+use Rattle.side_trees.proofs.RestLaw.{resting, read-was-written, Written, not-beyond-a, not-beyond-b, one-less-a, one-less-b, enough}
 use Rattle.side_trees.proofs.InTurnLaw.{Turned, all-turned, if-begun}
 use Rattle.side_trees.proofs.DrawnUnits.{Spent, written-a}
 use Rattle.side_trees.proofs.SharedUnitsLaw.{spent-of, pair_ends_as_one}
@@ -75,18 +75,6 @@ after-b L H outs w f xs ra rb e r = record {
   rest = r.rest;
 }
 
-not-beyond-a : (k n m : ℕ) → suc n + m ≤ k → k ≤ (n + m) + zero → ⊥
-not-beyond-a k n m h i = absurd (omega arith)
-
-not-beyond-b : (k n m : ℕ) → n + suc m ≤ k → k ≤ (n + m) + zero → ⊥
-not-beyond-b k n m h i = absurd (omega arith)
-
-one-less-a : (k n m l : ℕ) → k ≤ (n + m) + suc l → k ≤ (suc n + m) + l
-one-less-a k n m l h = omega arith
-
-one-less-b : (k n m l : ℕ) → k ≤ (n + m) + suc l → k ≤ (n + suc m) + l
-one-less-b k n m l h = omega arith
-
 abbrev ToRead : (L : Lang) (x y : Half L) (ra rb : List (Event L)) → Type 0
 ToRead L x y ra rb = Unread (sent L (written L y)) (got L ra) × Unread (sent L (written L x)) (got L rb)
 
@@ -114,9 +102,6 @@ carried L H two outs w f (suc n) xs ra rb x y u r h (None p, More m q) =
     after-b L H outs w f xs ra rb (Got m) (
     carried L H two outs w f n xs ra (Got m ∷ rb) x (drawing L u y (Got m)) (units L (drawing L u y (Got m))) k
     (one-less-b (2 * f + 3 * length xs) (length ra) (length rb) n h) (to-read L H two outs w f k))
-
-enough : (k n : ℕ) → k ≤ n + k
-enough k n = omega arith
 
 rested : (L : Lang) (H : Heap L) (two : OneIsTwo L H) (outs : Two L.A) (w : H.W) (f : ℕ) (xs : List (Text L)) (ra rb : List (Event L)) (x y : Half L) (u : ℕ)
     → Pair L H outs w f xs ra rb x y u → Rested L H outs w f xs ra rb
