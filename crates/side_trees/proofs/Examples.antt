@@ -164,7 +164,7 @@ free_messages : line toy ℕ (idling toy zero_done (8 ∷ []) 3) (Reads steps_0 
     }
 free_messages = refl
 
--- References to cell 0 that answers give: B gave two, of which A has read one and given it up, and the other is in flight.
+-- References to cell 0 that answers give: B gave three, of which A has read two and given them up, and one is in flight.
 abbrev given : Message toy → List ℕ
 given (Request r) = []
 given (Reply (Faults n)) = []
@@ -175,8 +175,8 @@ given (Reply (Answers (Yours k))) = []
 abbrev gives : ℕ → Packet toy ℕ
 gives k = Carries (Reply (Answers (Mine k)))
 
-exported : exports toy nat_eq given 0 (gives 0 ∷ gives 1 ∷ gives 0 ∷ []) (Releases 0 1 ∷ []) ≡ 1
+exported : exports toy nat_eq given 0 (gives 0 ∷ gives 1 ∷ gives 0 ∷ gives 0 ∷ []) (Releases 0 2 ∷ []) ≡ 1
 exported = refl
 
-held : proxies toy nat_eq given 0 (Releases 0 1 ∷ []) (gives 1 ∷ gives 0 ∷ []) ≡ 0
+held : proxies toy nat_eq given 0 (Releases 0 2 ∷ []) (gives 1 ∷ gives 0 ∷ gives 0 ∷ []) ≡ 0
 held = refl

@@ -11,11 +11,12 @@ use Rattle.side_trees.proofs.GrowthLaw.{react-extends}
 less-the-old : (a b c : ℕ) → a ≡ b + c → a - c ≡ b
 less-the-old a b c h = omega arith
 
+pub since-more : {M : Type 0} (more new old : List M) → new ≡ more ++ old → since new old ≡ more
+since-more more new old e =
+    ap (λ n. take n new) (less-the-old (length new) (length more) (length old) (ap length e ∙ length-append more old)) ∙ ap (take (length more)) e ∙ take-append_seam more old
+
 pub since-append : {M : Type 0} (new old : List M) → Extends new old → since new old ++ old ≡ new
-since-append {M} new old (more, e) =
-    let at : (length new - length old ≡ length more) = less-the-old (length new) (length more) (length old) (ap length e ∙ length-append more old) in
-    let front : (since new old ≡ more) = ap (λ n. take n new) at ∙ ap (take (length more)) e ∙ take-append_seam more old in
-    ap (λ l. l ++ old) front ∙ sym e
+since-append new old (more, e) = ap (λ l. l ++ old) (since-more more new old e) ∙ sym e
 
 messages-append : (L : Lang) (I : Type 0) (ps qs : List (Packet L I)) → messages L I (ps ++ qs) ≡ messages L I ps ++ messages L I qs
 messages-append L I [] qs = refl
@@ -91,6 +92,7 @@ line-kept L I start (Shuts ∷ es) = line-kept L I start es
 not-closed : (a b : Bool) → (if a then true else b) ≡ false → a ≡ false
 not-closed true b h = cc
 not-closed false b h = refl
+
 hears-packet : (L : Lang) (I : Type 0) (p : Packet L I) (es : List (Event L)) (ps : List (Packet L I)) → got L es ≡ messages L I ps → got L (heard_of L I p es) ≡ messages L I (p ∷ ps)
 hears-packet L I (Carries m) es ps h = ap (λ l. m ∷ l) h
 hears-packet L I (Releases i n) es ps h = h
@@ -98,6 +100,7 @@ hears-packet L I Released es ps h = h
 hears-packet L I Pings es ps h = h
 hears-packet L I Ponged es ps h = h
 hears-packet L I Closes es ps h = h
+
 hears-all : (L : Lang) (I : Type 0) (es : List (Happening L I)) → read_close L I es ≡ false → got L (conversation L I es) ≡ messages L I (packets L I es)
 hears-all L I [] h = refl
 hears-all L I (Reads p ∷ es) h =
@@ -107,6 +110,7 @@ hears-all L I (Reads p ∷ es) h =
 hears-all L I (Starts t ∷ es) h = hears-all L I es h
 hears-all L I (Sweeps rs ∷ es) h = hears-all L I es h
 hears-all L I (Shuts ∷ es) h = hears-all L I es h
+
 messages-extend : (L : Lang) (I : Type 0) (new old : List (Packet L I)) → Extends new old → Extends (messages L I new) (messages L I old)
 messages-extend L I new old (more, e) = (messages L I more, ap (messages L I) e ∙ messages-append L I more old)
 
@@ -116,5 +120,5 @@ free_of_cost L I = record {
   writes = λ start es. (line-kept L I start es).1 ∙ ap (λ s. sent L (written L s)) (line-kept L I start es).0;
   closes = λ start es. (line-kept L I start es).2;
   hears = hears-all L I;
-  follows = messages-extend L I
+  follows = messages-extend L I;
 }

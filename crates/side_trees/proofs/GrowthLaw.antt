@@ -7,10 +7,10 @@ use Rattle.side_trees.specs.Growing.{Extends, WithMore, Later, Growth}
 use Rattle.side_trees.proofs.Lists.{extends-same, extends-one, extends-trans, shown-extends, sent-extends}
 
 -- a side's own run, its record and its units at the end
-abbrev own : (L : Lang) → ℕ → TreeOf L → L.S → List (Item L) → EndedOf L
+abbrev pub own : (L : Lang) → ℕ → TreeOf L → L.S → List (Item L) → EndedOf L
 own L u t s w = run L.expand (λ o is. Shows o ∷ is) u t s w
 
-abbrev noted : (L : Lang) → EndedOf L → List (Item L)
+abbrev pub noted : (L : Lang) → EndedOf L → List (Item L)
 noted L (Done a s u w) = w
 noted L (Asked q k s u w) = w
 noted L (Stopped x s u w) = w
@@ -135,7 +135,7 @@ go-spends L task u t s w = subst (λ n. n ≤ u) (sym (settle-units L task (own 
 go-more : (L : Lang) (d : ℕ) (task : Task L) (u : ℕ) (t : TreeOf L) (s : L.S) (w : List (Item L)) → WithMore L d (go L task u t s w) (go L task (u + d) t s w)
 go-more L d task u t s w = settle-more L d task (own L u t s w) (own L (u + d) t s w) (own-more L d u t s w)
 
-abbrev serve : (L : Lang) → L.Req → TreeOf L
+abbrev pub serve : (L : Lang) → L.Req → TreeOf L
 serve L r = Spend (L.read_q r) (λ a. Return a)
 
 pub react-extends : (L : Lang) (x : Half L) (e : Event L) → Extends (written L (react L x e)) (written L x)

@@ -17,5 +17,6 @@ pub mod OneInFlight
 pub mod PairRestLaw
 pub mod RestLaw
 pub mod SharedUnitsLaw
+pub mod StackLaw
 pub mod TalkLists
 pub mod TwoSides

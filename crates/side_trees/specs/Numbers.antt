@@ -1,7 +1,7 @@
 -- Numbers of messages, as a layer over a side's conversation. A side numbers its requests by place, from 0; a reply has the number of its request.
 -- Lists are newest first; stacks have the innermost first.
-use Rattle.std.specs.Prelude.{if◌then◌else◌, ◌==◌, List, [], ◌∷◌, ℕ, zero, suc, ◌≡◌, IsFalse}
-use Rattle.side_trees.specs.Sides.{Lang, TreeOf, Message, Request, Reply, Event, Got, Begin, Broken, Half, Going, Failed, react, half, written, sent}
+use Rattle.std.specs.Prelude.{if◌then◌else◌, ◌==◌, List, [], ◌∷◌, ℕ, zero, suc, length, ◌≡◌, IsFalse, ⊤}
+use Rattle.side_trees.specs.Sides.{Lang, TreeOf, Message, Request, Reply, Event, Got, Begin, Pending, Over, Await, Texting, Serving, Broken, Half, Going, Failed, react, half, idling, written, sent}
 use Rattle.side_trees.specs.FreeMessages.{since}
 
 pub record Numbered (L : Lang) : Type 0 where
@@ -107,3 +107,22 @@ pub record NumbersFit (L : Lang) (start : Half L) : Type 0 where
 -- of a side that begins with nothing written
 abbrev pub ByNumbers : Lang → Type 0
 ByNumbers L = (start : Half L) → sent L (written L start) ≡ [] → NumbersFit L start
+
+-- how many questions of a stack are without an answer, and how many requests it serves
+abbrev pub questions : (L : Lang) → Pending L → ℕ
+questions L (Over a) = zero
+questions L (Await Texting k) = suc zero
+questions L (Await (Serving p) k) = suc (questions L p)
+
+abbrev pub servings : (L : Lang) → Pending L → ℕ
+servings L (Over a) = zero
+servings L (Await Texting k) = zero
+servings L (Await (Serving p) k) = suc (servings L p)
+
+-- a side that has not failed keeps a number for each question without an answer, and for each request that it serves
+abbrev pub Stacked : (L : Lang) → Half L → List ℕ → List ℕ → Type 0
+Stacked L (Going p s u w) asked served = (length asked ≡ questions L p) × (length served ≡ servings L p)
+Stacked L (Failed x s u w) asked served = ⊤
+
+abbrev pub StacksFit : Lang → Type 0
+StacksFit L = (a : L.A) (s : L.S) (u : ℕ) (es : List (Arrival L)) → let x : Tally L = tally L (idling L a s u) es in Stacked L x.side x.asked x.served

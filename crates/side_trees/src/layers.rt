@@ -1,7 +1,7 @@
 ghost use Rattle.std.specs.Prelude.{Bool, List, ℕ};
 ghost use Rattle.side_trees.specs.Counts.{Counted};
 ghost use Rattle.side_trees.specs.FreeMessages.{FreeOfCost};
-ghost use Rattle.side_trees.specs.Numbers.{ByNumbers};
+ghost use Rattle.side_trees.specs.Numbers.{ByNumbers, StacksFit};
 ghost use Rattle.side_trees.specs.Sides.{Message};
 ghost use Rattle.side_trees.specs.Toy.{toy};
 
@@ -15,7 +15,9 @@ pub fn references_balance()
     ensures { (same : ℕ → ℕ → Bool) (given : Message toy → List ℕ) → Counted toy ℕ same given }
 {}
 
-/// Over messages numbered by place a numbered side is the side itself, with another number it breaks, and its own requests are numbered 0, 1, 2 and on: at the toy language.
+/// Over messages numbered by place a numbered side is the side itself, with another number it breaks, and its own requests are numbered 0, 1, 2 and on.
+/// It keeps a number for each question without an answer, and for each request that it serves: at the toy language.
 pub fn numbers_go_by_place()
-    ensures { ByNumbers toy }
+    ensures places { ByNumbers toy }
+    ensures stacks { StacksFit toy }
 {}
