@@ -1,12 +1,12 @@
 -- Sides that draw their units from one number, each with the units that it spent.
-use Rattle.std.proofs.Common.{◌≡◌, List, [], ◌∷◌, ◌++◌, ℕ, zero, suc, ◌+◌, ◌-◌, ◌<◌, ◌≤◌, refl, sym, ap, ◌∙◌, subst, arith}
+use Rattle.std.proofs.Common.{◌≡◌, List, [], ◌∷◌, ℕ, zero, suc, ◌+◌, ◌-◌, ◌<◌, ◌≤◌, refl, sym, ap, ◌∙◌, subst, arith}
 use Rattle.std.specs.Prelude.{⊤}
-use Rattle.side_trees.specs.Sides.{Lang, TreeOf, Message, Event, Got, Begin, Pending, Over, Await, Failure, OutOfFuel, Beyond, Broken, Half, Going, Failed, react, half, written, units, got, sent}
-use Rattle.side_trees.specs.SharedRun.{Side, A, B, Text}
+use Rattle.side_trees.specs.Sides.{Lang, TreeOf, Message, Event, Got, Begin, Over, Await, Failure, OutOfFuel, Beyond, Broken, Half, Going, Failed, react, half, written, units, got, sent}
+use Rattle.side_trees.specs.SharedRun.{A, B, Text}
 use Rattle.side_trees.specs.Growing.{Extends, WithMore, Later}
 use Rattle.side_trees.specs.Joining.{MayBegin}
-use Rattle.side_trees.specs.Schedules.{Quiet, HasFuel, Reached, Begun, A_reads, B_reads, A_begins, B_begins}
-use Rattle.side_trees.specs.SharedUnits.{with_units, drawing, AllRead, Drawn, Opened, A_takes, B_takes, A_starts, B_starts}
+use Rattle.side_trees.specs.Schedules.{Quiet, Reached, Begun, A_reads, B_reads, A_begins, B_begins}
+use Rattle.side_trees.specs.SharedUnits.{with_units, drawing, AllRead}
 use Rattle.side_trees.proofs.GrowthLaw.{half-more, half-grows, react-spends}
 
 abbrev pub ByFuel : (L : Lang) → Failure L → Type 0
@@ -257,7 +257,7 @@ may-at : (L : Lang) (start : ℕ → Half L) (n : ℕ) (r : List (Event L)) (x :
     → MayBegin L (half L (start (n + d)) r)
 may-at L start n r x d b h i = subst (MayBegin L) (sym (b d h)) (kept-may-begin L d x i)
 
-reads-at : (L : Lang) (start : ℕ → Half L) (n : ℕ) (r : List (Event L)) (x : Half L) (d : ℕ) (ms : List (Message L)) → Bought L start n r x → (IsDry L x → d ≡ zero)
+pub reads-at : (L : Lang) (start : ℕ → Half L) (n : ℕ) (r : List (Event L)) (x : Half L) (d : ℕ) (ms : List (Message L)) → Bought L start n r x → (IsDry L x → d ≡ zero)
     → Extends (sent L (written L x)) ms → Extends (sent L (written L (half L (start (n + d)) r))) ms
 reads-at L start n r x d ms b h i = subst (λ l. Extends (sent L l) ms) (sym (written-a L start n r x d b h)) i
 

@@ -33,7 +33,7 @@ closes-log L H h outs (NoFuel w talk) = refl
 closes-log L H h outs (Asked q k w u talk) = absurd q
 
 -- a text that may begin is begun
-if-begun : (L : Lang) (H : Heap L) (b : Bool) (x : Text L) (outs : Two L.A) (w : H.W) (u : ℕ) (talk : List (Entry L)) → b ≡ true
+pub if-begun : (L : Lang) (H : Heap L) (b : Bool) (x : Text L) (outs : Two L.A) (w : H.W) (u : ℕ) (talk : List (Entry L)) → b ≡ true
     → begun L (log_of L H (text_if L H b x outs w u talk)) ≡ x ∷ begun L talk
 if-begun L H true x outs w u talk e =
     ap (begun L) (closes-log L H x.side outs (run2 L H u (both L H x.side x.tree) w (Begins x.side x.tree ∷ talk)))
@@ -45,12 +45,12 @@ pub text-begun : (L : Lang) (H : Heap L) (x : Text L) (outs : Two L.A) (w : H.W)
 text-begun L H x outs w u talk e = if-begun L H (may_begin L outs) x outs w u talk e
 
 -- where another text may begin, all of those given were begun
-abbrev Whole : (L : Lang) (H : Heap L) → List (Text L) → Course L H → Type 0
+abbrev pub Whole : (L : Lang) (H : Heap L) → List (Text L) → Course L H → Type 0
 Whole L H xs (Rests outs w u talk) = may_begin L outs ≡ true → begun L talk ≡ xs
 Whole L H xs (Leaves k w u talk) = ⊤
 Whole L H xs (Dry w talk) = ⊤
 
-abbrev Turned : (L : Lang) (H : Heap L) → List (Text L) → Course L H → Type 0
+abbrev pub Turned : (L : Lang) (H : Heap L) → List (Text L) → Course L H → Type 0
 Turned L H xs course = Extends xs (begun L (log_of L H course)) × Whole L H xs course
 
 all-of-them : (L : Lang) (H : Heap L) (xs : List (Text L)) (course : Course L H) → begun L (log_of L H course) ≡ xs → Turned L H xs course
@@ -72,7 +72,7 @@ text-turned L H x xs (Rests outs w u talk) h = text-if-turned L H (may_begin L o
 text-turned L H x xs (Leaves k w u talk) (f, g) = (extends-trans (x ∷ xs) xs (begun L talk) (extends-one x xs) f, tt)
 text-turned L H x xs (Dry w talk) (f, g) = (extends-trans (x ∷ xs) xs (begun L talk) (extends-one x xs) f, tt)
 
-all-turned : (L : Lang) (H : Heap L) (outs : Two L.A) (w : H.W) (f : ℕ) (xs : List (Text L)) → Turned L H xs (one L H outs w f xs)
+pub all-turned : (L : Lang) (H : Heap L) (outs : Two L.A) (w : H.W) (f : ℕ) (xs : List (Text L)) → Turned L H xs (one L H outs w f xs)
 all-turned L H outs w f [] = (extends-same [], λ h. refl)
 all-turned L H outs w f (x ∷ xs) = text-turned L H x xs (one L H outs w f xs) (all-turned L H outs w f xs)
 

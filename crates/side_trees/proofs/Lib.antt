@@ -14,7 +14,9 @@ pub mod Lists
 pub mod NumberLaw
 pub mod OlderEnds
 pub mod OneInFlight
+pub mod PairRestLaw
 pub mod RestLaw
+pub mod SharedUnitsLaw
 pub mod StackLaw
 pub mod TalkLists
 pub mod TwoSides

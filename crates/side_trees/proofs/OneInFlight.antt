@@ -1,8 +1,8 @@
 -- At most one message is under way, and a side that runs out of fuel sends none.
-use Rattle.std.proofs.Common.{◌≡◌, List, [], ◌∷◌, ◌++◌, ℕ, zero, suc, ◌+◌, ◌<◌, ◌≤◌, refl, sym, ap, ◌∙◌, subst, arith}
+use Rattle.std.proofs.Common.{◌≡◌, List, [], ◌∷◌, ℕ, zero, suc, ◌+◌, ◌≤◌, refl, ap, ◌∙◌, arith}
 use Rattle.std.specs.Prelude.{length}
 use Rattle.side_trees.specs.Trees.{Return, Act, Tell, Stop, Spend, Do, Ask, bind}
-use Rattle.side_trees.specs.Sides.{Lang, TreeOf, Message, Request, Reply, Item, Shows, Event, Got, Begin, Pending, Over, Await, Task, Texting, Serving, Half, Going, Failed, go, react, half, written, units, got, sent}
+use Rattle.side_trees.specs.Sides.{Lang, TreeOf, Message, Request, Reply, Item, Shows, Event, Got, Begin, Over, Await, Task, Texting, Serving, Half, Going, Failed, go, react, half, written, got, sent}
 use Rattle.side_trees.specs.SharedRun.{Text}
 use Rattle.side_trees.specs.Growing.{Extends}
 use Rattle.side_trees.specs.Schedules.{Quiet, Reached, Begun, A_reads, B_reads, A_begins, B_begins}
@@ -105,23 +105,23 @@ quiet-when-dry-a L a b {ra = ra} {rb = rb} m e f r h dry =
     let flight : count L b rb + count L a ra ≤ suc (length (got L ra) + length (got L rb)) = one-in-flight L a b e f r in
     let w : Written L a b ra rb = read-was-written L a b r in (
       extends-equal (sent L (written L (half L b rb))) (m ∷ got L ra) h
-        (read-out (count L b rb) (count L a ra) (length (got L ra)) (length (got L rb)) flight (extends-length (sent L (written L (half L a ra))) (got L rb) w.1)),
+          (read-out (count L b rb) (count L a ra) (length (got L ra)) (length (got L rb)) flight (extends-length (sent L (written L (half L a ra))) (got L rb) w.1)),
       react-dry L (half L a ra) (Got m) dry
-        ∙ extends-equal (sent L (written L (half L a ra))) (got L rb) w.1
-        (answered (count L b rb) (count L a ra) (length (got L ra)) (length (got L rb)) flight (extends-length (sent L (written L (half L b rb))) (m ∷ got L ra) h)),
+          ∙ extends-equal (sent L (written L (half L a ra))) (got L rb) w.1
+          (answered (count L b rb) (count L a ra) (length (got L ra)) (length (got L rb)) flight (extends-length (sent L (written L (half L b rb))) (m ∷ got L ra) h)),
     )
 
 pub quiet-when-dry-b : (L : Lang) (a b : Half L) {xs : List (Text L)} {ra rb : List (Event L)} (m : Message L) → written L a ≡ [] → written L b ≡ [] → Reached L a b xs ra rb
     → Extends (sent L (written L (half L a ra))) (m ∷ got L rb) → IsDry L (half L b (Got m ∷ rb)) → Quiet L a b ra (Got m ∷ rb)
 quiet-when-dry-b L a b {ra = ra} {rb = rb} m e f r h dry =
     let flight : count L a ra + count L b rb ≤ suc (length (got L rb) + length (got L ra)) =
-        turned (count L b rb) (count L a ra) (length (got L ra)) (length (got L rb)) (one-in-flight L a b e f r) in
+    turned (count L b rb) (count L a ra) (length (got L ra)) (length (got L rb)) (one-in-flight L a b e f r) in
     let w : Written L a b ra rb = read-was-written L a b r in (
       react-dry L (half L b rb) (Got m) dry
-        ∙ extends-equal (sent L (written L (half L b rb))) (got L ra) w.0
-        (answered (count L a ra) (count L b rb) (length (got L rb)) (length (got L ra)) flight (extends-length (sent L (written L (half L a ra))) (m ∷ got L rb) h)),
+          ∙ extends-equal (sent L (written L (half L b rb))) (got L ra) w.0
+          (answered (count L a ra) (count L b rb) (length (got L rb)) (length (got L ra)) flight (extends-length (sent L (written L (half L a ra))) (m ∷ got L rb) h)),
       extends-equal (sent L (written L (half L a ra))) (m ∷ got L rb) h
-        (read-out (count L a ra) (count L b rb) (length (got L rb)) (length (got L ra)) flight (extends-length (sent L (written L (half L b rb))) (got L ra) w.0)),
+          (read-out (count L a ra) (count L b rb) (length (got L rb)) (length (got L ra)) flight (extends-length (sent L (written L (half L b rb))) (got L ra) w.0)),
     )
 
 pub quiet-when-text-dry-a : (L : Lang) (a b : Half L) (ra rb : List (Event L)) (t : TreeOf L) → Quiet L a b ra rb → IsDry L (half L a (Begin t ∷ ra)) → Quiet L a b (Begin t ∷ ra) rb

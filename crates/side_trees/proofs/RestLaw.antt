@@ -204,16 +204,16 @@ next-step L a b {ra = ra} {rb = rb} r =
     let w : Written L a b ra rb = read-was-written L a b r in
     next-of-two L a b r (unread (sent L (written L (half L b rb))) (got L ra) w.0) (unread (sent L (written L (half L a ra))) (got L rb) w.1)
 
-not-beyond-a : (k n m : ℕ) → suc n + m ≤ k → k ≤ (n + m) + zero → ⊥
+pub not-beyond-a : (k n m : ℕ) → suc n + m ≤ k → k ≤ (n + m) + zero → ⊥
 not-beyond-a k n m h i = absurd (omega arith)
 
-not-beyond-b : (k n m : ℕ) → n + suc m ≤ k → k ≤ (n + m) + zero → ⊥
+pub not-beyond-b : (k n m : ℕ) → n + suc m ≤ k → k ≤ (n + m) + zero → ⊥
 not-beyond-b k n m h i = absurd (omega arith)
 
-one-less-a : (k n m l : ℕ) → k ≤ (n + m) + suc l → k ≤ (suc n + m) + l
+pub one-less-a : (k n m l : ℕ) → k ≤ (n + m) + suc l → k ≤ (suc n + m) + l
 one-less-a k n m l h = omega arith
 
-one-less-b : (k n m l : ℕ) → k ≤ (n + m) + suc l → k ≤ (n + suc m) + l
+pub one-less-b : (k n m l : ℕ) → k ≤ (n + m) + suc l → k ≤ (n + suc m) + l
 one-less-b k n m l h = omega arith
 
 after-a : (L : Lang) (a b : Half L) (xs : List (Text L)) (ra rb : List (Event L)) (e : Event L) → CarriedOn L a b xs (e ∷ ra) rb → CarriedOn L a b xs ra rb
@@ -235,7 +235,7 @@ carried L a b (suc n) xs ra rb r h (AtB m k) =
     after-b L a b xs ra rb (Got m) (
     carried L a b n xs ra (Got m ∷ rb) k (one-less-b (allowed L a b xs) (length ra) (length rb) n h) (next-step L a b k))
 
-enough : (k n : ℕ) → k ≤ n + k
+pub enough : (k n : ℕ) → k ≤ n + k
 enough k n = omega arith
 
 pub comes-to-rest : (L : Lang) (a b : Half L) (xs : List (Text L)) (ra rb : List (Event L)) → Reached L a b xs ra rb → CarriedOn L a b xs ra rb

@@ -1,7 +1,7 @@
 -- Law 3 for two sides that draw their units from one number.
 use Rattle.std.specs.Prelude.{List, [], ◌∷◌, ℕ, zero, ◌≡◌}
-use Rattle.side_trees.specs.Sides.{Lang, TreeOf, Message, Event, Got, Begin, Pending, Over, Failure, OutOfFuel, Beyond, Half, Going, Failed, react, written, units, got, sent}
-use Rattle.side_trees.specs.SharedRun.{Side, A, B, other, Two, Heap, Entry, Text, wrote, heard, begun, Course, Rests, Leaves, Dry, log_of, one}
+use Rattle.side_trees.specs.Sides.{Lang, TreeOf, Message, Event, Got, Begin, Pending, Over, OutOfFuel, Beyond, Half, Going, Failed, react, written, units, got, sent}
+use Rattle.side_trees.specs.SharedRun.{Side, A, B, other, Two, Heap, Text, wrote, heard, begun, Course, Rests, Leaves, Dry, log_of, one}
 use Rattle.side_trees.specs.Growing.{Extends}
 use Rattle.side_trees.specs.Joining.{starts, waits, fails, pick, MayBegin}
 
@@ -53,3 +53,16 @@ pub record Shares (L : Lang) (H : Heap L) (course : Course L H) (xs : List (Text
 abbrev pub PairEndsAsOne : (L : Lang) → Heap L → Type 0
 PairEndsAsOne L H = (outs : Two L.A) (w : H.W) (f : ℕ) (xs : List (Text L)) (ra rb : List (Event L)) (x y : Half L) (u : ℕ)
     → Drawn L (starts L H outs w A f) (starts L H outs w B f) f xs ra rb x y u → Shares L H (one L H outs w f xs) xs ra rb x y u
+
+-- A pair can be carried on, with no text more, until all is read.
+abbrev pub PairRests : (L : Lang) → Heap L → Type 0
+PairRests L H = (outs : Two L.A) (w : H.W) (f : ℕ) (xs : List (Text L)) (ra rb : List (Event L)) (x y : Half L) (u : ℕ)
+    → Drawn L (starts L H outs w A f) (starts L H outs w B f) f xs ra rb x y u
+    → (qa : List (Event L)) × (qb : List (Event L)) × (v : Half L) × (z : Half L) × (k : ℕ)
+    × Extends qa ra × Extends qb rb × Drawn L (starts L H outs w A f) (starts L H outs w B f) f xs qa qb v z k × AllRead L v z qa qb
+
+-- And for each course there is a pair that begins its texts and comes to rest.
+abbrev pub PairComes : (L : Lang) → Heap L → Type 0
+PairComes L H = (outs : Two L.A) (w : H.W) (f : ℕ) (texts : List (Text L))
+    → (ra : List (Event L)) × (rb : List (Event L)) × (x : Half L) × (y : Half L) × (u : ℕ)
+    × Drawn L (starts L H outs w A f) (starts L H outs w B f) f (begun L (log_of L H (one L H outs w f texts))) ra rb x y u × AllRead L x y ra rb

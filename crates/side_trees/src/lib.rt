@@ -9,7 +9,10 @@ mod heaps;
 mod layers;
 mod two_sides;
 
-pub use every_schedule::{every_schedule_ends_as_one, every_schedule_rests, texts_begin_in_turn};
+pub use every_schedule::{
+    every_schedule_ends_as_one, every_schedule_rests, pair_comes_to_rest, pair_ends_as_one,
+    texts_begin_in_turn,
+};
 pub use growth::a_side_grows;
 pub use heaps::{binds_group, changes_of_two_homes_commute};
 pub use layers::{free_messages_change_nothing, numbers_go_by_place, references_balance};
