@@ -1,6 +1,6 @@
 -- The text that an int is written as: it spells the int, it is the shortest such text, and how long it is.
 use Rattle.std.proofs.Common.{◌≡◌, ◌≢◌, ℕ, zero, suc, ◌+◌, ◌-◌, ◌*◌, ◌/◌, ◌%◌, ◌^◌, ◌<◌, ◌≤◌, ℤ, pos, negsuc, Bool, true, false, not, ◌&&◌, eqb, cond, List, [], ◌∷◌, ◌++◌, length, get_or, Some, option_map, refl, sym, ap, append_assoc, append-nil, ◌∙◌, subst, arith, rules}
-use Rattle.std.proofs.lemmas.Bool.{ltb-true, eqb-true, ne_eqb}
+use Rattle.std.proofs.lemmas.Bool.{ltb-true, eqb-true, ne_eqb, and_parts, and_from}
 use Rattle.std.proofs.lemmas.Fmt.{decimal_is_IsNumeral_wide, decimal_by_steps_wide, length-decimal-le_wide, decimal_digit, decimal_step_wide, IsAscii-decimal_wide}
 use Rattle.std.proofs.lemmas.Str.Ascii.{IsAscii-cons}
 use Rattle.std.proofs.lemmas.Str.Parse.{IsNumeralModel, numerals_by_weight, tells_all_ascii_digits}
@@ -29,14 +29,6 @@ natural_push (x ∷ xs) b =
     ∙ shifted (x - 48) (length xs) (natural xs) (b - 48)
 
 -- ---- digits
-
-both : (b c : Bool) → b && c ≡ true → (b ≡ true) × (c ≡ true)
-both true true e = (refl, refl)
-both true false e = cc
-both false c e = cc
-
-joined : (b c : Bool) → b ≡ true → c ≡ true → b && c ≡ true
-joined b c e h = rw (e, h)
 
 -- a digit is no sign
 pub first_digit : (b : ℕ) (bs : List ℕ) → all_ascii_digits (b ∷ bs) ≡ true → (48 ≤ b) × (b ≤ 57)
@@ -99,9 +91,9 @@ positive_decimal n some small = positive_text (decimal n) (first_decimal n some 
 
 pub positive_shortest : (ds : List ℕ) → is_positive_text ds ≡ true → is_shortest ds ≡ true
 positive_shortest [] h = cc
-positive_shortest (b ∷ []) h = (both _ _ h).1
+positive_shortest (b ∷ []) h = (and_parts _ _ h).1
 positive_shortest (b ∷ c ∷ bs) h =
-    let all : all_ascii_digits (b ∷ c ∷ bs) ≡ true = (both (not (eqb b 48)) (all_ascii_digits (b ∷ c ∷ bs)) h).1 in
+    let all : all_ascii_digits (b ∷ c ∷ bs) ≡ true = (and_parts (not (eqb b 48)) (all_ascii_digits (b ∷ c ∷ bs)) h).1 in
     let range = first_digit b (c ∷ bs) all in
     let no_minus : eqb b 45 ≡ false = ne_eqb b 45 (λ e. omega (arith, range.0)) in
     rw no_minus h
@@ -153,7 +145,7 @@ after_place n (b ∷ bs) = after_place (n * 10 + (b - 48)) bs ∙ sym (spread n 
 pub positive_written : (ds : List ℕ) → is_positive_text ds ≡ true → natural ds < 10 ^ 64 → decimal (natural ds) ≡ ds
 positive_written [] h small = cc
 positive_written (b ∷ bs) h small =
-    let halves = both (not (eqb b 48)) (all_ascii_digits (b ∷ bs)) h in
+    let halves = and_parts (not (eqb b 48)) (all_ascii_digits (b ∷ bs)) h in
     let parts = tells_all_ascii_digits.parts b bs halves.1 in
     let low : 48 ≤ b = parts.0.0 in
     let high : b ≤ 57 = parts.0.1 in
@@ -176,7 +168,7 @@ minus_written [] z h f e = cc
 minus_written (b ∷ bs) z h f e = split (natural (b ∷ bs)) refl
   where
     halves : (not (eqb b 48) ≡ true) × (all_ascii_digits (b ∷ bs) ≡ true)
-    halves = both (not (eqb b 48)) (all_ascii_digits (b ∷ bs)) h
+    halves = and_parts (not (eqb b 48)) (all_ascii_digits (b ∷ bs)) h
 
     is : below_zero (natural (b ∷ bs)) ≡ z
     is = some_is (below_zero (natural (b ∷ bs))) z (sym (ap (option_map below_zero) (natural_of_digits (b ∷ bs) (omega arith) halves.1)) ∙ e)
@@ -222,7 +214,7 @@ written (b ∷ c ∷ bs) z h f e = split (eqb b 45) refl
         ap (λ (x : ℕ). x ∷ c ∷ bs) is ∙ minus_written (c ∷ bs) z behind f spelled
     split false plain =
         let digits : is_positive_text (b ∷ c ∷ bs) ≡ true = sym (ap (λ (t : Bool). cond t (is_positive_text (c ∷ bs)) (is_positive_text (b ∷ c ∷ bs))) plain) ∙ h in
-        plain_written (b ∷ c ∷ bs) z (omega arith) (both (not (eqb b 48)) (all_ascii_digits (b ∷ c ∷ bs)) digits).1 (positive_written (b ∷ c ∷ bs) digits) f e
+        plain_written (b ∷ c ∷ bs) z (omega arith) (and_parts (not (eqb b 48)) (all_ascii_digits (b ∷ c ∷ bs)) digits).1 (positive_written (b ∷ c ∷ bs) digits) f e
 
 -- ---- how long it is
 

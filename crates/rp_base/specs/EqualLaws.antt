@@ -1,4 +1,5 @@
 -- The equality of plain values is an equivalence.
+use Rattle.std.proofs.lemmas.Bool.{and_parts, and_from}
 use Rattle.std.proofs.Common.{◌≡◌, Bool, true, false, ◌&&◌, List, [], ◌∷◌, map, refl, sym, ◌∙◌, ap, subst}
 use Rattle.std.proofs.lemmas.Cmp.{int_eq_equiv, nat_list_eq_equiv}
 use Rattle.std.specs.Cmp.{IsPartialEquivalence, IsEquivalence, equiv}
@@ -75,14 +76,6 @@ equal_turns = ind-Plain Turns (λ x y is. subst (λ z. Turns (roll-Plain z)) is 
 abbrev Chains : Plain → Type 0
 Chains p = (q r : Plain) → equal_to p q ≡ true → equal_to q r ≡ true → equal_to p r ≡ true
 
-both : (b c : Bool) → b && c ≡ true → (b ≡ true) × (c ≡ true)
-both true true e = (refl, refl)
-both true false e = cc
-both false c e = cc
-
-joined : (b c : Bool) → b ≡ true → c ≡ true → b && c ≡ true
-joined b c e h = λ i. e i && h i
-
 items_chain : (xs : List ((p : Plain) × Chains p)) (ys zs : List Plain)
     → tests_all (map equal_to (map (λ e. e.0) xs)) ys ≡ true → tests_all (map equal_to ys) zs ≡ true → tests_all (map equal_to (map (λ e. e.0) xs)) zs ≡ true
 items_chain [] [] [] h k = refl
@@ -91,9 +84,9 @@ items_chain [] (y ∷ ys) zs h k = cc
 items_chain (x ∷ xs) [] zs h k = cc
 items_chain (x ∷ xs) (y ∷ ys) [] h k = cc
 items_chain (x ∷ xs) (y ∷ ys) (z ∷ zs) h k =
-    let a = both (equal_to x.0 y) (tests_all (map equal_to (map (λ e. e.0) xs)) ys) h in
-    let b = both (equal_to y z) (tests_all (map equal_to ys) zs) k in
-    joined (equal_to x.0 z) (tests_all (map equal_to (map (λ e. e.0) xs)) zs) (x.1 y z a.0 b.0) (items_chain xs ys zs a.1 b.1)
+    let a = and_parts (equal_to x.0 y) (tests_all (map equal_to (map (λ e. e.0) xs)) ys) h in
+    let b = and_parts (equal_to y z) (tests_all (map equal_to ys) zs) k in
+    and_from (equal_to x.0 z) (tests_all (map equal_to (map (λ e. e.0) xs)) zs) (x.1 y z a.0 b.0) (items_chain xs ys zs a.1 b.1)
 
 layer_chains : (x : Plain-F ((p : Plain) × Chains p)) (y z : Plain-F Plain)
     → compare_layers (map-Plain Plain (Plain → Bool) equal_to (plain_layer Chains x)) y ≡ true → compare_layers (map-Plain Plain (Plain → Bool) equal_to y) z ≡ true

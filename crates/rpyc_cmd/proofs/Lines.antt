@@ -3,19 +3,19 @@ use Rattle.std.proofs.Common.{◌≡◌, ℕ, ℤ, pos, ◌⊎◌, inl, inr, ◌
 use Rattle.std.proofs.Math.Seq.{take-length, drop-length}
 use Rattle.std.proofs.lemmas.List.{map-append}
 use Rattle.std.specs.List.{position_or_len}
-use Rattle.std.proofs.lemmas.Bool.{leb-true, le-leb, ltb-true, ltb-false}
+use Rattle.std.proofs.lemmas.Bool.{leb-true, le-leb, ltb-true, ltb-false, and_parts}
 use Rattle.std.proofs.lemmas.List.{take-append-drop}
 use Rattle.std.proofs.lemmas.Option.{cond_some}
 use Rattle.std.proofs.lemmas.Slice.Eq.{bytes_eq-Decides}
 use Rattle.std.specs.Fmt.{signed_decimal}
 use Rattle.std.specs.Int.{is_in_range}
 use Rattle.std.specs.Str.{bytes_eq}
-use Rattle.rpyc_cmd.proofs.Numbers.{both, number_text_of, number_text_reads}
+use Rattle.rpyc_cmd.proofs.Numbers.{number_text_of, number_text_reads}
 use Rattle.rpyc_cmd.specs.declared.scripts.Binding.{Binding}
 use Rattle.rpyc_cmd.specs.Scripts.{IsLetter, IsNumber, IsBinding, question_line, binding_line, quoted_letter, read_letter, read_binding, bound, number_text, lines_of, onto_first, bytes_in}
 
 is_letter : (c : ℕ) → is_in_range 97 122 c ≡ true → IsLetter c
-is_letter c h = let parts = both (nat_le 97 c) (nat_le c 122) h in (leb-true 97 c parts.0, leb-true c 122 parts.1)
+is_letter c h = let parts = and_parts (nat_le 97 c) (nat_le c 122) h in (leb-true 97 c parts.0, leb-true c 122 parts.1)
 
 letter_is : (c : ℕ) → IsLetter c → is_in_range 97 122 c ≡ true
 letter_is c h = ap (λ t. t && nat_le c 122) (le-leb 97 c h.0) ∙ le-leb c 122 h.1
@@ -29,7 +29,7 @@ quoted_letter_gives : (quoted : List ℕ) (letter : ℕ) → quoted_letter quote
 quoted_letter_gives [] letter h = cc
 quoted_letter_gives (c ∷ rest) letter h =
     let parts = cond_some (is_in_range 97 122 c && bytes_eq rest (codes "\"])")) c letter h in
-    let tests = both (is_in_range 97 122 c) (bytes_eq rest (codes "\"])")) parts.0 in
+    let tests = and_parts (is_in_range 97 122 c) (bytes_eq rest (codes "\"])")) parts.0 in
     let closed : rest ≡ codes "\"])" = (bytes_eq-Decides rest (codes "\"])")).0 tests.1 in
     (subst IsLetter parts.1 (is_letter c tests.0), ap (λ m. m ∷ rest) parts.1 ∙ ap (λ ms. letter ∷ ms) closed)
 
@@ -57,7 +57,7 @@ read_binding_gives (p ∷ q ∷ []) b h = cc
 read_binding_gives (p ∷ q ∷ r ∷ []) b h = cc
 read_binding_gives (p ∷ q ∷ r ∷ s ∷ digits) b h =
     let parts = cond_gives (is_in_range 97 122 p && bytes_eq (q ∷ r ∷ s ∷ []) (codes " = ")) (bound p (number_text digits)) b h in
-    let tests = both (is_in_range 97 122 p) (bytes_eq (q ∷ r ∷ s ∷ []) (codes " = ")) parts.0 in
+    let tests = and_parts (is_in_range 97 122 p) (bytes_eq (q ∷ r ∷ s ∷ []) (codes " = ")) parts.0 in
     let middle : (q ∷ r ∷ s ∷ []) ≡ codes " = " = (bytes_eq-Decides (q ∷ r ∷ s ∷ []) (codes " = ")).0 tests.1 in
     let made = bound_gives p (number_text digits) b parts.1 in
     let number = number_text_reads digits b.number made.1 in

@@ -1,6 +1,6 @@
 -- Numbers below a bound, and texts of numbers without a sign.
 use Rattle.std.proofs.Common.{◌≡◌, ◌≢◌, ℕ, ◌+◌, ◌^◌, ◌<◌, ◌≤◌, ℤ, zero, suc, pos, ◌⊎◌, inl, inr, List, [], ◌∷◌, Option, Some, None, Result, Ok, Err, Bool, true, false, not, ◌&&◌, eqb, nat_le, cond, option_map, arith, ap, sym, ◌∙◌, refl, subst}
-use Rattle.std.proofs.lemmas.Bool.{eqb-true, ne_eqb, leb-true, le-leb, ltb-true, lt-ltb}
+use Rattle.std.proofs.lemmas.Bool.{eqb-true, ne_eqb, leb-true, le-leb, ltb-true, lt-ltb, and_parts, and_from}
 use Rattle.std.proofs.lemmas.Fmt.{decimal_digit}
 use Rattle.std.specs.Fmt.{decimal, signed_decimal}
 use Rattle.std.specs.Int.{is_in_range}
@@ -16,11 +16,6 @@ abbrev pub all_below : ℕ → (ℕ → Bool) → Bool
 all_below zero p = true
 all_below (suc k) p = p k && all_below k p
 
-pub both : (a b : Bool) → (a && b) ≡ true → (a ≡ true) × (b ≡ true)
-both true true h = (refl, refl)
-both true false h = cc
-both false b h = cc
-
 is_last : (k n : ℕ) → n < suc k → (n ≡ k) ⊎ (n < k)
 is_last k n below = grind arith
 
@@ -30,7 +25,7 @@ at_either k p h n below (inr l) = below l
 
 pub from_all : (k : ℕ) (p : ℕ → Bool) → all_below k p ≡ true → (n : ℕ) → n < k → p n ≡ true
 from_all zero p h n below = absurd (omega arith)
-from_all (suc k) p h n below = let parts = both (p k) (all_below k p) h in at_either k p parts.0 n (from_all k p parts.1 n) (is_last k n below)
+from_all (suc k) p h n below = let parts = and_parts (p k) (all_below k p) h in at_either k p parts.0 n (from_all k p parts.1 n) (is_last k n below)
 
 same : {A : Type 0} (x y : A) → Some x ≡ Some y → x ≡ y
 same x y e = cc
@@ -49,9 +44,6 @@ natural_gives : (t : Bool) (n : ℕ) (z : ℤ) → option_map pos (cond t (Some 
 natural_gives true n z e = (refl, same (pos n) z e)
 natural_gives false n z e = cc
 
-joined : (a b : Bool) → a ≡ true → b ≡ true → a && b ≡ true
-joined a b e h = rw (e, h) refl
-
 -- digits that begin with none of `0`, `-` and `+`
 digits_read : (c : ℕ) (ds : List ℕ) (z : ℤ) → 49 ≤ c → c ≤ 57 → int_value (c ∷ ds) ≡ Some z → fits z ≡ true → IsNumber z × (c ∷ ds ≡ signed_decimal z)
 digits_read c ds z low high e f =
@@ -61,7 +53,7 @@ digits_read c ds z low high e f =
     let plain : int_value (c ∷ ds) ≡ option_map pos (natural_value (c ∷ ds)) = rw (no_minus, no_plus) refl in
     let read = natural_gives (all_ascii_digits (c ∷ ds)) (natural (c ∷ ds)) z (sym plain ∙ e) in
     let other : not (eqb c 48) ≡ true = ap not no_zero in
-    let positive : is_positive_text (c ∷ ds) ≡ true = joined (not (eqb c 48)) (all_ascii_digits (c ∷ ds)) other read.0 in
+    let positive : is_positive_text (c ∷ ds) ≡ true = and_from (not (eqb c 48)) (all_ascii_digits (c ∷ ds)) other read.0 in
     let small : fits (pos (natural (c ∷ ds))) ≡ true = ap fits read.1 ∙ f in
     ((natural (c ∷ ds), sym read.1, ltb-true (natural (c ∷ ds)) (2 ^ 127) small), written (c ∷ ds) z (positive_shortest (c ∷ ds) positive) f e)
 
@@ -71,12 +63,12 @@ ends (d ∷ ds) h = cc
 
 zero_read : (c : ℕ) (ds : List ℕ) (z : ℤ) → eqb c 48 && is_end ds ≡ true → Some (pos 0) ≡ Some z → IsNumber z × (c ∷ ds ≡ signed_decimal z)
 zero_read c ds z h e =
-    let tests = both (eqb c 48) (is_end ds) h in
+    let tests = and_parts (eqb c 48) (is_end ds) h in
     let is : pos 0 ≡ z = same (pos 0) z e in
     ((0, sym is, omega arith), ap (λ m. m ∷ ds) (eqb-true c 48 tests.0) ∙ ap (λ ms. 48 ∷ ms) (ends ds tests.1) ∙ sym (decimal_digit 0 (omega arith)) ∙ ap signed_decimal is)
 
 in_range : (low high c : ℕ) → is_in_range low high c ≡ true → (low ≤ c) × (c ≤ high)
-in_range low high c h = let parts = both (nat_le low c) (nat_le c high) h in (leb-true low c parts.0, leb-true c high parts.1)
+in_range low high c h = let parts = and_parts (nat_le low c) (nat_le c high) h in (leb-true low c parts.0, leb-true c high parts.1)
 
 text_read : (t u : Bool) (c : ℕ) (ds : List ℕ) (z : ℤ) → eqb c 48 && is_end ds ≡ t → is_in_range 49 57 c ≡ u
     → cond t (Some (pos 0)) (cond u (read_or_none (within (int_value (c ∷ ds)))) None) ≡ Some z → IsNumber z × (c ∷ ds ≡ signed_decimal z)
@@ -95,7 +87,7 @@ number_text_reads (c ∷ ds) z h = text_read (eqb c 48 && is_end ds) (is_in_rang
 -- ---- and every such number is read
 
 range_is : (c : ℕ) → 49 ≤ c → c ≤ 57 → is_in_range 49 57 c ≡ true
-range_is c low high = joined (nat_le 49 c) (nat_le c 57) (le-leb 49 c low) (le-leb c 57 high)
+range_is c low high = and_from (nat_le 49 c) (nat_le c 57) (le-leb 49 c low) (le-leb c 57 high)
 
 unended : (t : Bool) → t && false ≡ false
 unended true = refl
@@ -123,7 +115,7 @@ digits_again (c ∷ b ∷ ds) z s d e f =
     let range = first_digit c (b ∷ ds) d in
     let no_minus : eqb c 45 ≡ false = ne_eqb c 45 (λ k. omega (arith, range.0)) in
     let positive : is_positive_text (c ∷ b ∷ ds) ≡ true = sym (ap (λ (t : Bool). cond t (is_positive_text (b ∷ ds)) (is_positive_text (c ∷ b ∷ ds))) no_minus) ∙ s in
-    let other : not (eqb c 48) ≡ true = (both (not (eqb c 48)) (all_ascii_digits (c ∷ b ∷ ds)) positive).0 in
+    let other : not (eqb c 48) ≡ true = (and_parts (not (eqb c 48)) (all_ascii_digits (c ∷ b ∷ ds)) positive).0 in
     let no_zero : c ≢ 48 = λ k. no_zero_at c k other in
     read_as c (b ∷ ds) z (unended (eqb c 48)) (omega (arith, range.0, no_zero)) range.1 e f
   where
