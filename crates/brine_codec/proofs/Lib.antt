@@ -3,6 +3,7 @@ pub mod Fronts
 pub mod Lengths
 pub mod Loop
 pub mod Meets
+pub mod Places
 pub mod Sizes
 pub mod Stays
 pub mod Tags
