@@ -1,6 +1,7 @@
 pub mod Examples
 pub mod Fronts
 pub mod Lengths
+pub mod Local
 pub mod Loop
 pub mod Meets
 pub mod Places

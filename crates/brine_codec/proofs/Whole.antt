@@ -1,6 +1,6 @@
 -- All of the bytes: what the answer says of spellings, and of bytes added behind.
 use Rattle.std.proofs.Common.{◌≡◌, ◌≢◌, ℕ, ◌+◌, ◌-◌, ◌<◌, ◌≤◌, true, List, [], ◌∷◌, ◌++◌, length, take, drop, Result, Ok, Err, refl, sym, ap, subst, ◌∙◌, arith}
-use Rattle.std.proofs.lemmas.List.{append-nil, length-append, take_at, take-append-drop, length-take, length-drop}
+use Rattle.std.proofs.lemmas.List.{append-nil, length-append, take_at, drop_at, take-append-drop, length-take, length-drop}
 use Rattle.std.specs.Result.{IsErrOf}
 use Rattle.rp_base.specs.declared.plain.Plain.{Plain}
 use Rattle.rp_base.specs.PlainValues.{plain_depth}
@@ -16,6 +16,7 @@ use Rattle.brine_codec.specs.Reading.{Read, Fault, Fails, Answers, ended, placed
 use Rattle.brine_codec.proofs.Sizes.{done, ok_is}
 use Rattle.brine_codec.proofs.Meets.{value_takes, value_again}
 use Rattle.brine_codec.proofs.Stays.{FaultStays, Stays, value_stays}
+use Rattle.brine_codec.proofs.Local.{IsEnd, Told, value_told}
 use Rattle.brine_codec.proofs.Places.{Placed, value_placed}
 
 abbrev answer : Plain → Result Plain BrineFault
@@ -232,3 +233,26 @@ value_before bytes (Err (left, w)) f fit is e what place = absurd (place.2 (ap (
 
 pub spelling_before : (bytes : List ℕ) (f : BrineFault) → IsBytes bytes → decoded bytes ≡ Err f → f.what ≡ kinds.B9 → (v : Plain) × (decoded (take f.at bytes) ≡ Ok v)
 spelling_before bytes f fit e is = value_before bytes (value_at 100 bytes) f fit refl e is (value_placed 100 bytes)
+
+-- ---- what a fault is told by
+
+alone : (bytes end : List ℕ) (left n : ℕ) (what : BrineKind) → IsEnd bytes end → length end ≡ left → value_at 100 end ≡ Err (left, what) → n ≡ length bytes - left → decoded (drop n bytes) ≡ Err (fault_at 0 what)
+alone bytes end left n what e size there is =
+    let longer : length bytes ≡ length (e.0 ++ end) = ap (λ (x : List ℕ). length x) e.1 in
+    let front : length e.0 ≡ n = omega (arith, is, size, longer, length-append e.0 end) in
+    let rest : drop n bytes ≡ end = ap (λ (x : List ℕ). drop n x) e.1 ∙ drop_at e.0 end n front in
+    let place : length end - left ≡ 0 = omega (arith, size) in
+    ap decoded rest ∙ ap (whole_value (length end)) there ∙ ap (λ (at : ℕ). refusal (fault_at at what)) place
+
+by_told : (bytes : List ℕ) (r : Read Plain) (f : BrineFault) → Told bytes r → whole_value (length bytes) r ≡ refusal f → f.what ≢ kinds.B3 → f.what ≢ kinds.B8 → f.what ≢ kinds.B9
+    → decoded (drop f.at bytes) ≡ Err (fault_at 0 f.what)
+by_told bytes (Ok (v, [])) f told e other depth last = absurd cc
+by_told bytes (Ok (v, b ∷ rest)) f told e other depth last = absurd (last (sym (ap (λ (g : BrineFault). g.what) (refused_by (placed (length bytes) (length (b ∷ rest), kinds.B9)) f e))))
+by_told bytes (Err (left, what)) f told e other depth last =
+    let same = refused_by (placed (length bytes) (left, what)) f e in
+    let kind : what ≡ f.what = ap (λ (g : BrineFault). g.what) same in
+    let found = told (λ is. other (sym kind ∙ is)) (λ is. depth (sym kind ∙ is)) in
+    alone bytes found.0 left f.at what found.1 found.2 found.3 (sym (ap (λ (g : BrineFault). g.at) same)) ∙ ap (λ (x : BrineKind). refusal (fault_at 0 x)) kind
+
+pub told_alone : (bytes : List ℕ) (f : BrineFault) → decoded bytes ≡ Err f → f.what ≢ kinds.B3 → f.what ≢ kinds.B8 → f.what ≢ kinds.B9 → decoded (drop f.at bytes) ≡ Err (record { at = 0; what = f.what })
+told_alone bytes f e other depth last = by_told bytes (value_at 100 bytes) f (value_told 100 bytes) e other depth last

@@ -1,4 +1,4 @@
-ghost use Rattle.std.specs.Prelude.{◌≡◌, ◌≢◌, ◌≤◌, ◌*◌, ◌++◌, ◌∷◌, [], List, ℕ, IsTrue, Ok, Err, length, take};
+ghost use Rattle.std.specs.Prelude.{◌≡◌, ◌≢◌, ◌≤◌, ◌*◌, ◌++◌, ◌∷◌, [], List, ℕ, IsTrue, Ok, Err, length, take, drop};
 ghost use Rattle.rp_base.specs.declared.plain.Plain.{Plain};
 ghost use Rattle.rp_base.specs.PlainValues.{plain_depth, plain_weight};
 ghost use Rattle.brine_codec.specs.declared.ends.BrineFault.{BrineFault};
@@ -41,6 +41,13 @@ pub fn faults_stay_first()
 /// told too early or too late.
 pub fn faults_stand_at_the_first_place()
     ensures { (bytes : List ℕ) (f : BrineFault) → decoded bytes ≡ Err f → f.what ≢ kinds.B9 → decoded (take f.at bytes) ≡ Err (record { at = f.at; what = kinds.B3 }) }
+{}
+
+/// What is wrong is told by the bytes from the place on: they alone have the same fault, at 0. A cut has no bytes there,
+/// a depth depends on what stands before, and a byte too many on the value before it.
+pub fn faults_are_told_by_what_stands_there()
+    ensures { (bytes : List ℕ) (f : BrineFault) → decoded bytes ≡ Err f → f.what ≢ kinds.B3 → f.what ≢ kinds.B8 → f.what ≢ kinds.B9
+        → decoded (drop f.at bytes) ≡ Err (record { at = 0; what = f.what }) }
 {}
 
 /// A byte behind a spelling is one too many.
