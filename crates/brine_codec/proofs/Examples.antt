@@ -1,6 +1,7 @@
 -- Worked examples, computed by the checker.
-use Rattle.std.proofs.Common.{◌≡◌, [], ◌∷◌, true, false, pos, negsuc, refl, ℕ}
+use Rattle.std.proofs.Common.{List, ◌≡◌, [], ◌∷◌, true, false, pos, negsuc, refl, sym, ap, length, ◌^◌, ◌-◌, ℕ}
 use Rattle.std.specs.Prelude.{Ok, Err, Result}
+use Rattle.py_ints.specs.IntLaws.{written}
 use Rattle.rp_base.specs.declared.plain.Plain.{Plain}
 use Rattle.rp_base.specs.declared.plain.Plain.TheVariants as plain
 use Rattle.brine_codec.specs.declared.ends.BrineKind.{BrineKind}
@@ -53,6 +54,24 @@ least_tag = refl
 pub greatest_tag : spelling (plain.Int (pos 159)) ≡ 0xef ∷ []
 unfolding brine_computing
 greatest_tag = refl
+
+-- -49 and 160 are texts
+pub below_tags : spelling (plain.Int (negsuc 48)) ≡ 0x16 ∷ 3 ∷ 0x2d ∷ 0x34 ∷ 0x39 ∷ []
+unfolding brine_computing
+below_tags = ap (λ (t : List ℕ). 0x16 ∷ length t ∷ t) (sym (written (0x2d ∷ 0x34 ∷ 0x39 ∷ []) (negsuc 48) refl refl refl))
+
+pub above_tags : spelling (plain.Int (pos 160)) ≡ 0x16 ∷ 3 ∷ 0x31 ∷ 0x36 ∷ 0x30 ∷ []
+unfolding brine_computing
+above_tags = ap (λ (t : List ℕ). 0x16 ∷ length t ∷ t) (sym (written (0x31 ∷ 0x36 ∷ 0x30 ∷ []) (pos 160) refl refl refl))
+
+-- the ends of 128 bits
+pub widest : spellable (plain.Tuple (plain.Int (pos (2 ^ 127 - 1)) ∷ plain.Int (negsuc (2 ^ 127 - 1)) ∷ [])) ≡ true
+unfolding brine_computing
+widest = refl
+
+pub too_wide : spellable (plain.Int (pos (2 ^ 127))) ≡ false
+unfolding brine_computing
+too_wide = refl
 
 pub below_tags_read : decoded (0x16 ∷ 3 ∷ 0x2d ∷ 0x34 ∷ 0x39 ∷ []) ≡ Ok (plain.Int (negsuc 48))
 unfolding brine_computing

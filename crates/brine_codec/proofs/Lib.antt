@@ -1,8 +1,10 @@
 pub mod Examples
 pub mod Fronts
 pub mod Lengths
+pub mod Local
 pub mod Loop
 pub mod Meets
+pub mod Places
 pub mod Sizes
 pub mod Stays
 pub mod Tags

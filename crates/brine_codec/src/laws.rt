@@ -1,4 +1,4 @@
-ghost use Rattle.std.specs.Prelude.{◌≡◌, ◌≢◌, ◌≤◌, ◌*◌, ◌++◌, ◌∷◌, [], List, ℕ, IsTrue, Ok, Err, length};
+ghost use Rattle.std.specs.Prelude.{◌≡◌, ◌≢◌, ◌≤◌, ◌*◌, ◌++◌, ◌∷◌, [], List, ℕ, IsTrue, Ok, Err, length, take, drop};
 ghost use Rattle.rp_base.specs.declared.plain.Plain.{Plain};
 ghost use Rattle.rp_base.specs.PlainValues.{plain_depth, plain_weight};
 ghost use Rattle.brine_codec.specs.declared.ends.BrineFault.{BrineFault};
@@ -37,10 +37,28 @@ pub fn faults_stay_first()
     ensures { (bytes more : List ℕ) (f : BrineFault) → decoded bytes ≡ Err f → f.what ≢ kinds.B3 → decoded (bytes ++ more) ≡ Err f }
 {}
 
+/// Before the place of a fault nothing is wrong: the bytes there are only cut. With `faults_stay_first`, no fault is
+/// told too early or too late.
+pub fn faults_stand_at_the_first_place()
+    ensures { (bytes : List ℕ) (f : BrineFault) → decoded bytes ≡ Err f → f.what ≢ kinds.B9 → decoded (take f.at bytes) ≡ Err (record { at = f.at; what = kinds.B3 }) }
+{}
+
+/// What is wrong is told by the bytes from the place on: they alone have the same fault, at 0. A cut has no bytes there,
+/// a depth depends on what stands before, and a byte too many on the value before it.
+pub fn faults_are_told_by_what_stands_there()
+    ensures { (bytes : List ℕ) (f : BrineFault) → decoded bytes ≡ Err f → f.what ≢ kinds.B3 → f.what ≢ kinds.B8 → f.what ≢ kinds.B9
+        → decoded (drop f.at bytes) ≡ Err (record { at = 0; what = f.what }) }
+{}
+
 /// A byte behind a spelling is one too many.
 pub fn bytes_behind_are_refused()
     ensures { (v : Plain) (b : ℕ) (more : List ℕ) → IsTrue (spellable v) → plain_depth v ≤ 100
         → decoded (spelling v ++ b ∷ more) ≡ Err (record { at = length (spelling v); what = kinds.B9 }) }
+{}
+
+/// Before a byte too many stands the spelling of a value.
+pub fn values_stand_before_trailing_bytes()
+    ensures { (bytes : List ℕ) (f : BrineFault) → IsBytes bytes → decoded bytes ≡ Err f → f.what ≡ kinds.B9 → (v : Plain) × (decoded (take f.at bytes) ≡ Ok v) }
 {}
 
 /// A value of weight w is spelled in at most 21 w bytes: an int weighs 2 and takes up to 42.
