@@ -1,0 +1,1 @@
+print(conn.namespace["y"])
