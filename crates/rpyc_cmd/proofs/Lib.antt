@@ -1,9 +1,10 @@
-pub mod Numbers
-pub mod Lines
+pub mod Asking
 pub mod Delivering
+pub mod Items
+pub mod LastBindings
+pub mod Lines
+pub mod Numbers
+pub mod Outcomes
 pub mod Sendable
 pub mod Traffic
-pub mod Asking
-pub mod Items
 pub mod WordsLaws
-pub mod Outcomes

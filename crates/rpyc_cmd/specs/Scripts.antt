@@ -86,6 +86,10 @@ pub record IsFirstOtherBinding (text : List ℕ) (line : ℕ) : Type 0 where
 abbrev pub number_of : List Binding → ℕ → Option ℤ
 number_of bindings letter = option_map (λ b. b.number) (find (λ b. b.letter == letter) (reverse bindings))
 
+-- these bindings give each letter the same number as those
+abbrev pub Agrees : List Binding → List Binding → Type 0
+Agrees namespace bindings = (letter : ℕ) → number_of namespace letter ≡ number_of bindings letter
+
 -- the letters before this line's are bound, and this one is not
 pub record IsFirstUnbound (bindings : List Binding) (letters : List ℕ) (line : ℕ) : Type 0 where
   pub before : List ℕ

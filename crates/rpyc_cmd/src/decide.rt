@@ -4,8 +4,8 @@ ghost use Rattle.rpyc_cmd.specs.declared.scripts.Binding.{Binding};
 ghost use Rattle.rpyc_cmd.specs.Deciding.{IfRefused, IfNoMemory, CutAfter, Came, IsDecided, Finished};
 ghost use Rattle.rpyc_cmd.specs.Outcome.{Holds, IsFileRefusal, IsRefusal, AreAccepted, AreBegun, IsCutRun, Decides, RunsOut, Ends, outside, seen};
 ghost use Rattle.rpyc_cmd.specs.Report.{script_line};
-ghost use Rattle.rpyc_cmd.specs.Scripts.{AsksFor, Binds, IsFirstOtherQuestion, IsFirstOtherBinding, IsFirstUnbound, number_of};
-ghost use Rattle.rpyc_cmd.specs.Talk.{AreAnswered, PrintsFirst, Carries, CarriesFront, stream, talk, printed, IsIdle};
+ghost use Rattle.rpyc_cmd.specs.Scripts.{AsksFor, Binds, IsFirstOtherQuestion, IsFirstOtherBinding, IsFirstUnbound, number_of, Agrees};
+ghost use Rattle.rpyc_cmd.specs.Talk.{AreAnswered, PrintsFirst, Carries, CarriesFront, stream, talk, printed, units_of, IsIdle};
 ghost use Rattle.rpyc_cmd.specs.Words.{IsPair};
 
 use crate::delivery::Cut;
@@ -13,7 +13,7 @@ use crate::pair::{SideA, SideB, converse};
 use crate::report::{
     PairEnd, RunEnd, not_there_text, pair_report, read_fault_text, script_text, words_text,
 };
-use crate::scripts::{Binding, ScriptEnd, bindings, first_unbound, questions};
+use crate::scripts::{Binding, ScriptEnd, bindings, first_unbound, latest, questions};
 use crate::status::Status;
 use crate::words::command;
 use channel_frames::Deframer;
@@ -45,11 +45,12 @@ impl From<NoMemory> for Stop {
     }
 }
 
-/// Two scripts that are run: the letters that A asks for, and what B binds.
+/// Two scripts that are run: the letters that A asks for, and what B binds, line by line and at its end.
 #[derive(Drop)]
 pub struct Accepted {
     pub letters: Vec<u8>,
     pub bindings: Vec<Binding>,
+    pub namespace: Vec<Binding>,
 }
 
 /// Reads a script's file.
@@ -132,13 +133,19 @@ fn accept(
     text_b: &[u8],
 ) -> Result<Accepted, Stop>
     ensures accepted { IfOk result (λ s. AreAccepted text_a.now text_b.now s.letters.items s.bindings.items) }
+    ensures agrees { IfOk result (λ s. Agrees s.namespace.items s.bindings.items) }
     ensures refused { IfErr result (λ e. IfRefused e (λ d. (d.status ≡ Status.Script)
         × ((name : List ℕ) × (line : ℕ) × IsRefusal name_a.now text_a.now name_b.now text_b.now name line × (string_bytes d.text ≡ script_line name line)))) }
 {
     let letters = letters_of(alloc, name_a, text_a)?;
     let bindings = bindings_of(alloc, name_b, text_b)?;
-    match check_bound(alloc, name_a, &letters, &bindings) {
-        Ok(()) => Ok(Accepted { letters, bindings }),
+    let namespace = latest(alloc, &bindings)?;
+    match check_bound(alloc, name_a, &letters, &namespace) {
+        Ok(()) => Ok(Accepted {
+            letters,
+            bindings,
+            namespace,
+        }),
         Err(stop) => Err(stop),
     }
 }
@@ -170,6 +177,13 @@ fn begin_and_converse<W: Wire>(
     Ok(())
 }
 
+/// The units of a run: 2 for each line of B, 2 to make `conn`, 8 for each line of A.
+fn units(bindings: &[Binding], letters: &[u8]) -> u128
+    ensures { result ≡ units_of bindings.now letters.now }
+{
+    2 * bindings.len() as u128 + 2 + 8 * letters.len() as u128
+}
+
 /// Runs a pair over two wires.
 fn run_pair<W: Wire>(
     alloc: Global,
@@ -177,22 +191,27 @@ fn run_pair<W: Wire>(
     ab: &mut W,
     ba: &mut W,
 ) -> Result<PairEnd, NoMemory>
-    requires { AreAnswered accepted.bindings.items accepted.letters.items }
+    requires answered { AreAnswered accepted.bindings.items accepted.letters.items }
+    requires agrees { Agrees accepted.namespace.items accepted.bindings.items }
     ensures came { IfOk result (λ e. Came e.end accepted.bindings.items accepted.letters.items (string_bytes e.out_a) e.units e.tables
         (seen (W.carried ab.old) (W.begun ab.old) (W.fault_count ab.old)) (seen (W.carried ab.new) (W.begun ab.new) (W.fault_count ab.new)) (seen (W.carried ba.old) (W.begun ba.old) (W.fault_count ba.old)) (seen (W.carried ba.new) (W.begun ba.new) (W.fault_count ba.new))) }
     ensures silent { IfOk result (λ e. string_bytes e.out_b ≡ []) }
     ensures part { OnErr result (IsCutRun accepted.bindings.items accepted.letters.items
         (seen (W.carried ab.old) (W.begun ab.old) (W.fault_count ab.old)) (seen (W.carried ab.new) (W.begun ab.new) (W.fault_count ab.new)) (seen (W.carried ba.old) (W.begun ba.old) (W.fault_count ba.old)) (seen (W.carried ba.new) (W.begun ba.new) (W.fault_count ba.new))) }
 {
-    let Accepted { letters, bindings } = accepted;
-    let units = 2 * bindings.len() as u128 + 2 + 8 * letters.len() as u128;
+    let Accepted {
+        letters,
+        bindings,
+        namespace,
+    } = accepted;
+    let units = units(&bindings, &letters);
     let mut a = SideA {
         inbox: Deframer::new(alloc),
         output: String::new(alloc),
     };
     let mut b = SideB {
         inbox: Deframer::new(alloc),
-        bindings,
+        bindings: namespace,
     };
     match begin_and_converse(alloc, &letters, &mut a, &mut b, ab, ba) {
         Ok(()) => {
@@ -226,7 +245,8 @@ fn decide_run<W: Wire>(
     ab: &mut W,
     ba: &mut W,
 ) -> Result<Decided, NoMemory>
-    requires { AreAnswered accepted.bindings.items accepted.letters.items }
+    requires answered { AreAnswered accepted.bindings.items accepted.letters.items }
+    requires agrees { Agrees accepted.namespace.items accepted.bindings.items }
     ensures decided { IfOk result (λ d. IsDecided d.status accepted.bindings.items accepted.letters.items (string_bytes d.text)
         (seen (W.carried ab.old) (W.begun ab.old) (W.fault_count ab.old)) (seen (W.carried ab.new) (W.begun ab.new) (W.fault_count ab.new)) (seen (W.carried ba.old) (W.begun ba.old) (W.fault_count ba.old)) (seen (W.carried ba.new) (W.begun ba.new) (W.fault_count ba.new))) }
     ensures part { OnErr result (IsCutRun accepted.bindings.items accepted.letters.items

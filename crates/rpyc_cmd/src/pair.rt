@@ -29,7 +29,7 @@ pub struct SideA {
     pub output: String,
 }
 
-/// The side that is served: what it was sent, and what its script bound.
+/// The side that is served: what it was sent, and what its script bound, the last binding of a letter counting.
 #[derive(Drop)]
 pub struct SideB {
     pub inbox: Deframer,

@@ -1,7 +1,9 @@
-ghost use Rattle.std.specs.Prelude.{◌≡◌, ◌==◌, ◌+◌, ◌<◌, ◌⊎◌, ℕ, ◌∷◌, length, IfOk, All, IsSome, IfNone, position, Some, Err};
-ghost use Rattle.rpyc_cmd.specs.Scripts.{AsksFor, Binds, IsFirstOtherQuestion, IsFirstOtherBinding, lines_of, number_of, IsFirstUnbound, number_text, quoted_letter, read_letter, read_binding};
+ghost use Rattle.std.specs.Prelude.{◌≡◌, ◌==◌, ◌+◌, ◌<◌, ◌⊎◌, ℕ, ◌∷◌, length, List, IfOk, OnOk, All, IsSome, IfNone, position, Some, Err};
+ghost use Rattle.rpyc_cmd.specs.declared.scripts.Binding.{Binding};
+ghost use Rattle.rpyc_cmd.specs.Scripts.{AsksFor, Binds, IsFirstOtherQuestion, IsFirstOtherBinding, lines_of, number_of, Agrees, IsFirstUnbound, number_text, quoted_letter, read_letter, read_binding};
 
 use py_ints::read_int;
+use rp_base::NoMemory;
 use std::alloc::{AllocFailed, Global};
 
 /// A line of B: a lower-case letter, and the number that it is bound to, from 0 to 2^127 - 1.
@@ -82,6 +84,28 @@ pub fn number_of(bindings: &[Binding], letter: u8) -> Option<i128>
         .rev()
         .find(|binding| binding.letter == letter)
         .map(|binding| binding.number)
+}
+
+/// The last binding of each letter, so at most 26. Time is linear in the bindings.
+pub fn latest(alloc: Global, bindings: &[Binding]) -> Result<Vec<Binding>, NoMemory>
+    ensures { IfOk result (λ namespace. Agrees namespace.items bindings.now) }
+{
+    let mut namespace = Vec::new(alloc);
+    for i in 0..bindings.len() {
+        keep(&mut namespace, bindings[bindings.len() - 1 - i])?;
+    }
+    Ok(namespace)
+}
+
+/// Adds an earlier binding, unless its letter is bound later.
+fn keep(namespace: &mut Vec<Binding>, earlier: Binding) -> Result<(), NoMemory>
+    ensures { (later : List Binding) → Agrees namespace.old.items later → OnOk result (Agrees namespace.new.items (earlier ∷ later)) }
+{
+    if number_of(namespace, earlier.letter).is_some() {
+        return Ok(());
+    }
+    namespace.push(earlier)?;
+    Ok(())
 }
 
 /// The line of the first letter that no line of B binds, counted from 1.

@@ -3,8 +3,8 @@ use Rattle.rpyc_cmd.specs.Outcome.{outside, seen}
 use Rattle.rpyc_cmd.proofs.Outcomes.{are_answered, run_decides, script_decides, scripts_of}
 use Rattle.rpyc_cmd.proofs.decide.decide_pair.Goals as goal
 
-pub decide_run-requires : goal.decide_run-requires
-decide_run-requires g c = are_answered c.as_slice.result.now c.as_slice-2.result.now c.in-Ok.accepted.letters.items c.in-Ok.accepted.bindings.items c.in-Ok.ensures.accepted
+pub decide_run-requires-clause-answered : goal.decide_run-requires-clause-answered
+decide_run-requires-clause-answered g c = are_answered c.as_slice.result.now c.as_slice-2.result.now c.in-Ok.accepted.letters.items c.in-Ok.accepted.bindings.items c.in-Ok.ensures.accepted
 
 pub returns-in-Ok-decide_run-clause-decided : goal.returns-in-Ok-decide_run-clause-decided
 returns-in-Ok-decide_run-clause-decided g c = λ words named.

@@ -1,20 +1,48 @@
-use Rattle.std.proofs.Common.{List, ℕ, [], ap, subst, refl, Err, string_bytes}
+use Rattle.std.proofs.Common.{◌∙◌, List, ℕ, [], ◌++◌, ap, sym, subst, refl, Some, Err, string_bytes}
+use Rattle.rpyc_cmd.specs.declared.delivery.Cut.{Cut}
+use Rattle.rpyc_cmd.specs.Talk.{AreAnswered, Carries, stream, talk, printed, units_of}
+use Rattle.rp_base.specs.declared.ends.Side.{Side}
+use Rattle.message_core.specs.declared.message.Message.{Message}
 use Rattle.rpyc_cmd.specs.Deciding.{CutAfter}
 use Rattle.rpyc_cmd.specs.Outcome.{IsCutRun, seen}
-use Rattle.rpyc_cmd.specs.declared.delivery.Cut.{Cut}
+use Rattle.rpyc_cmd.proofs.LastBindings.{talk_same, printed_same, answered_same, cut_same, cut_after_same}
 use Rattle.rpyc_cmd.proofs.decide.run_pair.Goals as goal
+
+pub begin_and_converse-requires-clause-answered : goal.begin_and_converse-requires-clause-answered
+begin_and_converse-requires-clause-answered g c =
+    subst (AreAnswered c.args.accepted.namespace.items) (sym c.deref-3.ensures.value)
+    (answered_same c.args.accepted.namespace.items c.args.accepted.bindings.items c.args.accepted.letters.items c.requires.agrees c.requires.answered)
+
+pub returns-in-Ok-clause-came : goal.returns-in-Ok-clause-came
+returns-in-Ok-clause-came g c =
+    let ns = c.args.accepted.namespace.items in
+    let bs = c.args.accepted.bindings.items in
+    let letters = c.args.accepted.letters.items in
+    let C : List (Side × Message) → Type 0 = λ ms. Carries (stream ms) (g.W.Wire.carried c.args.ab.now) (g.W.Wire.carried c.begin_and_converse.new.ab) (g.W.Wire.carried c.args.ba.now) (g.W.Wire.carried c.begin_and_converse.new.ba) in (
+      c.in-Ok.ensures.begun,
+      subst C (talk_same ns bs letters c.requires.agrees) (subst (λ ls. C (talk ns ls)) c.deref-3.ensures.value c.in-Ok.ensures.carried),
+      c.in-Ok.ensures.printed ∙ ap (λ o. o ++ printed ns c.deref-3.result.now) c.new-2.ensures.bytes ∙ ap (printed ns) c.deref-3.ensures.value ∙ printed_same ns bs letters c.requires.agrees,
+      ap (λ (n : ℕ). Some n) (c.units-units.ensures ∙ ap (λ b. units_of b c.deref-2.result.now) c.deref.ensures.value ∙ ap (units_of bs) c.deref-2.ensures.value),
+      refl,
+    )
 
 pub returns-in-Err-Wire-clause-came : goal.returns-in-Err-Wire-clause-came
 returns-in-Err-Wire-clause-came g c =
-    let F : List ℕ → List ℕ → Type 0 = λ letters out. CutAfter c.args.accepted.bindings.items letters out (string_bytes c.begin_and_converse.new.a.output)
-    (seen (g.W.Wire.carried c.args.ab.now) (g.W.Wire.begun c.args.ab.now) (g.W.Wire.fault_count c.args.ab.now)) (seen (g.W.Wire.carried c.begin_and_converse.new.ab) (g.W.Wire.begun c.begin_and_converse.new.ab) (g.W.Wire.fault_count c.begin_and_converse.new.ab))
-    (seen (g.W.Wire.carried c.args.ba.now) (g.W.Wire.begun c.args.ba.now) (g.W.Wire.fault_count c.args.ba.now)) (seen (g.W.Wire.carried c.begin_and_converse.new.ba) (g.W.Wire.begun c.begin_and_converse.new.ba) (g.W.Wire.fault_count c.begin_and_converse.new.ba)) in
+    let F : List ℕ → List ℕ → Type 0 = λ letters out. CutAfter c.args.accepted.namespace.items letters out (string_bytes c.begin_and_converse.new.a.output)
+        (seen (g.W.Wire.carried c.args.ab.now) (g.W.Wire.begun c.args.ab.now) (g.W.Wire.fault_count c.args.ab.now)) (seen (g.W.Wire.carried c.begin_and_converse.new.ab) (g.W.Wire.begun c.begin_and_converse.new.ab) (g.W.Wire.fault_count c.begin_and_converse.new.ab))
+        (seen (g.W.Wire.carried c.args.ba.now) (g.W.Wire.begun c.args.ba.now) (g.W.Wire.fault_count c.args.ba.now)) (seen (g.W.Wire.carried c.begin_and_converse.new.ba) (g.W.Wire.begun c.begin_and_converse.new.ba) (g.W.Wire.fault_count c.begin_and_converse.new.ba)) in
     let failed = ap (λ (e : Cut). Err e) c.in-Err-Wire.field-0-is in
-    (subst (λ letters. F letters []) c.deref.ensures.value (subst (F c.deref.result.now) c.new-2.ensures.bytes (c.in-Err-Wire.ensures.cut failed)), refl, refl, c.in-Err-Wire.ensures.failed failed)
+    (cut_after_same c.args.accepted.namespace.items c.args.accepted.bindings.items c.args.accepted.letters.items [] (string_bytes c.begin_and_converse.new.a.output)
+        (seen (g.W.Wire.carried c.args.ab.now) (g.W.Wire.begun c.args.ab.now) (g.W.Wire.fault_count c.args.ab.now)) (seen (g.W.Wire.carried c.begin_and_converse.new.ab) (g.W.Wire.begun c.begin_and_converse.new.ab) (g.W.Wire.fault_count c.begin_and_converse.new.ab))
+        (seen (g.W.Wire.carried c.args.ba.now) (g.W.Wire.begun c.args.ba.now) (g.W.Wire.fault_count c.args.ba.now)) (seen (g.W.Wire.carried c.begin_and_converse.new.ba) (g.W.Wire.begun c.begin_and_converse.new.ba) (g.W.Wire.fault_count c.begin_and_converse.new.ba)) c.requires.agrees
+        (subst (λ letters. F letters []) c.deref-3.ensures.value (subst (F c.deref-3.result.now) c.new-2.ensures.bytes (c.in-Err-Wire.ensures.cut failed))), refl, refl, c.in-Err-Wire.ensures.failed failed)
 
 pub returns-clause-part : goal.returns-clause-part
 returns-clause-part g c =
-    let F : List ℕ → Type 0 = λ letters. IsCutRun c.args.accepted.bindings.items letters
-    (seen (g.W.Wire.carried c.args.ab.now) (g.W.Wire.begun c.args.ab.now) (g.W.Wire.fault_count c.args.ab.now)) (seen (g.W.Wire.carried c.begin_and_converse.new.ab) (g.W.Wire.begun c.begin_and_converse.new.ab) (g.W.Wire.fault_count c.begin_and_converse.new.ab))
-    (seen (g.W.Wire.carried c.args.ba.now) (g.W.Wire.begun c.args.ba.now) (g.W.Wire.fault_count c.args.ba.now)) (seen (g.W.Wire.carried c.begin_and_converse.new.ba) (g.W.Wire.begun c.begin_and_converse.new.ba) (g.W.Wire.fault_count c.begin_and_converse.new.ba)) in
-    subst F c.deref.ensures.value c.in-Err-NoMemory.ensures.part
+    let F : List ℕ → Type 0 = λ letters. IsCutRun c.args.accepted.namespace.items letters
+        (seen (g.W.Wire.carried c.args.ab.now) (g.W.Wire.begun c.args.ab.now) (g.W.Wire.fault_count c.args.ab.now)) (seen (g.W.Wire.carried c.begin_and_converse.new.ab) (g.W.Wire.begun c.begin_and_converse.new.ab) (g.W.Wire.fault_count c.begin_and_converse.new.ab))
+        (seen (g.W.Wire.carried c.args.ba.now) (g.W.Wire.begun c.args.ba.now) (g.W.Wire.fault_count c.args.ba.now)) (seen (g.W.Wire.carried c.begin_and_converse.new.ba) (g.W.Wire.begun c.begin_and_converse.new.ba) (g.W.Wire.fault_count c.begin_and_converse.new.ba)) in
+    cut_same c.args.accepted.namespace.items c.args.accepted.bindings.items c.args.accepted.letters.items
+        (seen (g.W.Wire.carried c.args.ab.now) (g.W.Wire.begun c.args.ab.now) (g.W.Wire.fault_count c.args.ab.now)) (seen (g.W.Wire.carried c.begin_and_converse.new.ab) (g.W.Wire.begun c.begin_and_converse.new.ab) (g.W.Wire.fault_count c.begin_and_converse.new.ab))
+        (seen (g.W.Wire.carried c.args.ba.now) (g.W.Wire.begun c.args.ba.now) (g.W.Wire.fault_count c.args.ba.now)) (seen (g.W.Wire.carried c.begin_and_converse.new.ba) (g.W.Wire.begun c.begin_and_converse.new.ba) (g.W.Wire.fault_count c.begin_and_converse.new.ba)) c.requires.agrees
+        (subst F c.deref-3.ensures.value c.in-Err-NoMemory.ensures.part)
