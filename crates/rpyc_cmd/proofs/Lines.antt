@@ -1,5 +1,5 @@
 -- A line is read exactly where it is spelled so.
-use Rattle.std.proofs.Common.{◌≡◌, ℕ, ℤ, pos, ◌⊎◌, inl, inr, ◌≤◌, ◌++◌, List, [], ◌∷◌, Option, Some, None, Bool, true, false, arith, ap, sym, ◌∙◌, refl, take, drop, codes, cond, ◌&&◌, nat_le, subst, ◌+◌, ◌<◌, ◌==◌, length, not, suc, nat_lt, position, map, ◌-◌, append_assoc, length-drop}
+use Rattle.std.proofs.Common.{◌≡◌, ℕ, ℤ, ◌⊎◌, inl, inr, ◌≤◌, ◌++◌, List, [], ◌∷◌, Option, Some, None, Bool, true, false, arith, ap, sym, ◌∙◌, refl, take, drop, codes, cond, ◌&&◌, nat_le, subst, ◌+◌, ◌<◌, ◌==◌, length, not, suc, nat_lt, position, map, ◌-◌, append_assoc, length-drop}
 use Rattle.std.proofs.Math.Seq.{take-length, drop-length}
 use Rattle.std.proofs.lemmas.List.{map-append}
 use Rattle.std.specs.List.{position_or_len}

@@ -1,5 +1,5 @@
 -- Numbers below a bound, and texts of numbers without a sign.
-use Rattle.std.proofs.Common.{◌≡◌, ◌≢◌, ℕ, ◌+◌, ◌^◌, ◌<◌, ◌≤◌, ℤ, zero, suc, pos, ◌⊎◌, inl, inr, List, [], ◌∷◌, Option, Some, None, Result, Ok, Err, Bool, true, false, not, ◌&&◌, eqb, nat_le, cond, option_map, arith, ap, sym, ◌∙◌, refl, subst}
+use Rattle.std.proofs.Common.{◌≡◌, ◌≢◌, ℕ, ◌^◌, ◌<◌, ◌≤◌, ℤ, zero, suc, pos, ◌⊎◌, inl, inr, List, [], ◌∷◌, Option, Some, None, Ok, Err, Bool, true, false, not, ◌&&◌, eqb, nat_le, cond, option_map, arith, ap, sym, ◌∙◌, refl, subst}
 use Rattle.std.proofs.lemmas.Bool.{eqb-true, ne_eqb, leb-true, le-leb, ltb-true, lt-ltb, and_parts, and_from}
 use Rattle.std.proofs.lemmas.Fmt.{decimal_digit}
 use Rattle.std.specs.Fmt.{decimal, signed_decimal}
@@ -7,7 +7,6 @@ use Rattle.std.specs.Int.{is_in_range}
 use Rattle.std.specs.Str.{all_ascii_digits}
 use Rattle.py_ints.specs.IntLaws.{first_digit, decimal_digits, positive_shortest, read_back, shortest, written}
 use Rattle.py_ints.specs.IntTexts.{natural, natural_value, int_value, fits, within, is_shortest, is_positive_text}
-use Rattle.py_ints.specs.declared.reading.IntText.{IntText}
 use Rattle.py_ints.specs.declared.reading.IntText.TheVariants as int_text
 use Rattle.rpyc_cmd.specs.Scripts.{IsNumber, read_or_none, is_end, number_text}
 

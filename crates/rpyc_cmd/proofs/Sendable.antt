@@ -1,5 +1,5 @@
 -- The messages of this stage have a spelling that a frame can hold, and are read as what was said.
-use Rattle.std.proofs.Common.{◌≡◌, ◌∙◌, ℕ, ℤ, ◌+◌, ◌^◌, ◌<◌, ◌≤◌, List, [], ◌∷◌, ◌++◌, length, length-append, append-nil, ap, sym, refl, pos, Bool, true, false, ◌&&◌, nat_lt, arith, Some, None, cond, subst, eqb}
+use Rattle.std.proofs.Common.{◌≡◌, ◌∙◌, ℕ, ℤ, ◌^◌, ◌<◌, ◌≤◌, List, [], ◌∷◌, ◌++◌, length, length-append, append-nil, ap, sym, refl, pos, Bool, true, false, ◌&&◌, nat_lt, arith, Some, None, cond, subst}
 use Rattle.std.specs.Str.{is_utf8, chars}
 use Rattle.std.specs.Fmt.{signed_decimal}
 use Rattle.std.proofs.lemmas.Bool.{lt-ltb, eq-eqb}

@@ -1,5 +1,5 @@
 -- What is known of a stop before a run, and of a run of a pair.
-use Rattle.std.specs.Prelude.{◌≡◌, ℕ, List, [], Option, Some, None, ◌⊎◌, take}
+use Rattle.std.specs.Prelude.{◌≡◌, ℕ, List, [], Option, Some, None, ◌⊎◌}
 use Rattle.wire_io.specs.Devices.{Rose, Wrote, IsPart}
 use Rattle.rpyc_cmd.specs.declared.decide.Decided.{Decided}
 use Rattle.rpyc_cmd.specs.declared.decide.Stop.{Stop}

@@ -1,6 +1,5 @@
 use Rattle.std.proofs.Common.{◌≡◌, ◌∙◌, ℕ, ap, subst, sym, string_bytes}
 use Rattle.rpyc_cmd.specs.declared.decide.Decided.{Decided}
-use Rattle.rpyc_cmd.specs.declared.scripts.Binding.{Binding}
 use Rattle.rpyc_cmd.specs.declared.status.Status.TheVariants as status
 use Rattle.rpyc_cmd.specs.Report.{script_line}
 use Rattle.rpyc_cmd.specs.Scripts.{number_of, Agrees, AsksFor, IsFirstUnbound}

@@ -1,4 +1,4 @@
-use Rattle.std.proofs.Common.{◌∙◌, ◌++◌, ap, sym}
+use Rattle.std.proofs.Common.{◌∙◌, ◌++◌, ap}
 use Rattle.rpyc_cmd.proofs.delivery.deliver.Goals as goal
 
 pub next_message-requires : goal.next_message-requires

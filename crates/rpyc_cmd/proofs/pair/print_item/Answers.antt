@@ -1,4 +1,4 @@
-use Rattle.std.proofs.Common.{arith, sym, subst, ◌<◌, ◌^◌, ◌≡◌, ◌∙◌, ◌++◌, ◌∷◌, [], ap, pos, ℕ, ℤ, Option, Some, None, string_bytes}
+use Rattle.std.proofs.Common.{arith, sym, subst, ◌<◌, ◌^◌, ◌≡◌, ◌∙◌, ◌++◌, ◌∷◌, [], ap, pos, ℤ, Option, Some, None, string_bytes}
 use Rattle.std.specs.Fmt.{signed_decimal}
 use Rattle.std.specs.Int.{w128}
 use Rattle.std.proofs.lemmas.Int.{to_z-of_z}

@@ -1,4 +1,4 @@
-use Rattle.std.proofs.Common.{subst, sym, All, ◌≡◌, ◌∙◌, ◌++◌, ◌∷◌, [], ◌+◌, ◌-◌, ◌<◌, ◌≤◌, List, length, map, ap, arith, inl, inr}
+use Rattle.std.proofs.Common.{subst, sym, All, ◌≡◌, ◌∙◌, ◌++◌, ◌∷◌, [], ◌+◌, ◌-◌, ◌<◌, ◌≤◌, List, length, map, ap, arith, inr}
 use Rattle.std.proofs.lemmas.List.Elements.{All-push}
 use Rattle.rpyc_cmd.specs.declared.scripts.Binding.{Binding}
 use Rattle.rpyc_cmd.specs.Scripts.{lines_of, binding_line, IsBinding, bytes_in, longest_text}

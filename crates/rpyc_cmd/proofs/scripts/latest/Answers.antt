@@ -1,4 +1,4 @@
-use Rattle.std.proofs.Common.{◌-◌, ◌+◌, List, drop, length, get_or, subst}
+use Rattle.std.proofs.Common.{◌-◌, List, drop, length, subst}
 use Rattle.rpyc_cmd.specs.declared.scripts.Binding.{Binding}
 use Rattle.rpyc_cmd.specs.Scripts.{Agrees}
 use Rattle.rpyc_cmd.proofs.LastBindings.{one_more}

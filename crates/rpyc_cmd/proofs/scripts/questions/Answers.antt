@@ -1,4 +1,4 @@
-use Rattle.std.proofs.Common.{subst, sym, All, ◌≡◌, ◌∙◌, ◌++◌, ◌∷◌, [], ◌+◌, ◌-◌, ◌<◌, ◌≤◌, List, length, map, ap, arith, inl, inr, ℕ}
+use Rattle.std.proofs.Common.{subst, sym, All, ◌≡◌, ◌∙◌, ◌++◌, ◌∷◌, [], ◌+◌, ◌-◌, ◌<◌, ◌≤◌, List, length, map, ap, arith, inr, ℕ}
 use Rattle.std.proofs.lemmas.List.Elements.{All-push}
 use Rattle.rpyc_cmd.specs.Scripts.{lines_of, question_line, IsLetter, bytes_in, longest_text}
 use Rattle.rpyc_cmd.proofs.Lines.{lines_more, bytes_more, reaches, read_letter_gives, asks_nothing}
