@@ -1,1 +1,4 @@
+pub mod Division
 pub mod Examples
+pub mod Fitting
+pub mod Powers
