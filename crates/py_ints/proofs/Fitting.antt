@@ -1,13 +1,12 @@
 -- What fits 128 bits, and what the code's numbers are.
-use Rattle.std.proofs.Common.{◌≡◌, ◌≢◌, ℕ, zero, suc, ◌+◌, ◌-◌, ◌*◌, ◌/◌, ◌%◌, ◌^◌, ◌<◌, ◌≤◌, ℤ, pos, negsuc, neg_ℤ, ◌+ℤ◌, ◌-ℤ◌, ◌*ℤ◌, ◌<ℤ◌, ◌≤ℤ◌, FitsSigned, Bool, true, false, Ok, Err, refl, sym, ap, ◌∙◌, subst, to_z, of_z, nat_lt, arith}
+use Rattle.std.proofs.Common.{◌≡◌, ◌≢◌, ℕ, zero, suc, ◌-◌, ◌/◌, ◌%◌, ◌^◌, ◌<◌, ◌≤◌, ℤ, pos, negsuc, neg_ℤ, ◌+ℤ◌, ◌-ℤ◌, ◌<ℤ◌, FitsSigned, Bool, true, false, Ok, Err, refl, sym, ap, ◌∙◌, to_z, of_z, arith}
 use Rattle.std.specs.Int.{w128, int_div_euclid, int_rem_euclid}
 use Rattle.std.specs.Int.Signed.{lt_z}
 use Rattle.std.proofs.lemmas.Bool.{lt-ltb, ltb-true}
 use Rattle.std.proofs.lemmas.Int.{ints, to_z-of_z}
-use Rattle.std.proofs.Math.Nat.{div-le_self, div-lt_self, mod-lt}
+use Rattle.std.proofs.Math.Nat.{div-le_self, div-lt_self}
 use Rattle.py_ints.specs.IntTexts.{fits}
 use Rattle.py_ints.specs.Arithmetic.{exact, floor_div, floor_mod, quotient, remainder}
-use Rattle.py_ints.specs.declared.arithmetic.IntEnd.{IntEnd}
 use Rattle.py_ints.specs.declared.arithmetic.IntEnd.TheVariants as end
 use Rattle.py_ints.proofs.Division.{down_whole, down_part, rest_below}
 
@@ -87,6 +86,6 @@ remainder_whole a (pos b) r f h u none = absurd (omega (arith, ints))
 pub remainder_part : (a b r : ℤ) → FitsSigned w128 b → b <ℤ pos 0 → FitsSigned w128 r → r ≡ int_rem_euclid a b → r ≢ pos 0 → Ok (to_z w128 (of_z w128 (to_z w128 (of_z w128 r) +ℤ to_z w128 (of_z w128 b)))) ≡ remainder a b
 remainder_part a (negsuc b) r f h g u some =
     given (to_z w128 (of_z w128 r) +ℤ to_z w128 (of_z w128 (negsuc b))) (floor_mod a (negsuc b))
-        (plain_args (λ (x y : ℤ). x +ℤ y) r (negsuc b) g f ∙ ap (λ (x : ℤ). x +ℤ negsuc b) u ∙ (down_part a b (λ k. some (u ∙ k))).1)
-        (remainder_fits a b f)
+    (plain_args (λ (x y : ℤ). x +ℤ y) r (negsuc b) g f ∙ ap (λ (x : ℤ). x +ℤ negsuc b) u ∙ (down_part a b (λ k. some (u ∙ k))).1)
+    (remainder_fits a b f)
 remainder_part a (pos b) r f h g u some = absurd (omega (arith, ints))

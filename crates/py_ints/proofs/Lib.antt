@@ -1,3 +1,4 @@
+pub mod BitLaws
 pub mod Division
 pub mod Examples
 pub mod Fitting

@@ -1,15 +1,14 @@
 -- Powers and shifts by more than an int's bits.
-use Rattle.std.proofs.Common.{◌≡◌, ◌≢◌, ℕ, zero, suc, ◌+◌, ◌-◌, ◌*◌, ◌/◌, ◌%◌, ◌^◌, ◌<◌, ◌≤◌, ℤ, pos, negsuc, neg_ℤ, ◌+ℤ◌, ◌-ℤ◌, ◌*ℤ◌, ◌<ℤ◌, ◌≤ℤ◌, FitsSigned, Bool, true, false, cond, eqb, Ok, Err, refl, sym, ap, ◌∙◌, subst, to_z, of_z, arith}
-use Rattle.std.specs.Int.{w128, int_div_euclid, int_pow}
+use Rattle.std.proofs.Common.{◌≡◌, ◌≢◌, ℕ, zero, suc, ◌-◌, ◌*◌, ◌/◌, ◌%◌, ◌^◌, ◌<◌, ◌≤◌, ℤ, pos, negsuc, neg_ℤ, ◌*ℤ◌, ◌<ℤ◌, ◌≤ℤ◌, FitsSigned, Bool, true, false, cond, eqb, Ok, Err, refl, sym, ap, ◌∙◌, subst, to_z, of_z, arith}
+use Rattle.std.specs.Int.{w128, int_pow}
 use Rattle.std.specs.Int.RustNames.{unsigned_abs}
-use Rattle.std.proofs.lemmas.Bool.{eqb-true, ne_eqb}
+use Rattle.std.proofs.lemmas.Bool.{ne_eqb}
 use Rattle.std.specs.Int.Signed.{rem_z}
 use Rattle.std.proofs.lemmas.Int.{ints, to_z-of_z, to_z_pos}
 use Rattle.std.proofs.lemmas.Nat.{pow_pos}
 use Rattle.std.proofs.Math.Nat.{div-eq_of_lt, mod-eq_of_lt, pow-suc, pow-le-pow_left, mul-le-mul_left}
 use Rattle.std.proofs.Math.Pow.{pow_mono}
-use Rattle.py_ints.specs.Arithmetic.{exact, power, left_shift, right_shift, floor_div}
-use Rattle.py_ints.specs.declared.arithmetic.IntEnd.{IntEnd}
+use Rattle.py_ints.specs.Arithmetic.{exact, power, left_shift, right_shift}
 use Rattle.py_ints.specs.declared.arithmetic.IntEnd.TheVariants as end
 use Rattle.py_ints.proofs.Fitting.{too_wide, given, plain_args}
 

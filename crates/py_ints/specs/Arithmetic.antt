@@ -1,5 +1,5 @@
 -- Arithmetic of whole numbers as Python has it, on numbers of any size; and what of it an int of 128 bits can hold.
-use Rattle.std.specs.Prelude.{ℕ, zero, suc, ◌*◌, ◌^◌, ℤ, pos, negsuc, neg_ℤ, ◌+ℤ◌, ◌-ℤ◌, ◌*ℤ◌, ◌≤ℤ◌, ◌<ℤ◌, Result, Ok, Err, if◌then◌else◌, unsigned_abs, ◌%◌}
+use Rattle.std.specs.Prelude.{ℕ, zero, suc, ◌^◌, ℤ, pos, negsuc, neg_ℤ, ◌+ℤ◌, ◌-ℤ◌, ◌*ℤ◌, ◌≤ℤ◌, ◌<ℤ◌, Result, Ok, Err, if◌then◌else◌, unsigned_abs}
 use Rattle.std.specs.Int.{w128, int_div_euclid, int_rem_euclid, int_pow, int_bit_and, int_bit_or, int_bit_xor}
 use Rattle.rp_base.specs.declared.operators.BinaryOp.{BinaryOp}
 use Rattle.rp_base.specs.declared.operators.BinaryOp.TheVariants as op
@@ -57,9 +57,9 @@ abbrev pub right_shift : ℤ → ℤ → Result ℤ IntEnd
 right_shift a (pos k) = Ok (floor_div a (pos (2 ^ k)))
 right_shift a (negsuc k) = Err end.NegShift
 
--- bit i of a whole number's two's complement, which goes on to the left for ever: whether the number shifted by i is odd
-abbrev pub int_bit : ℤ → ℕ → ℤ
-int_bit z i = floor_mod (floor_div z (pos (2 ^ i))) (pos 2)
+-- bit i of a whole number's two's complement, which goes on to the left for ever: 1 where the number shifted by i is odd
+abbrev pub int_bit : ℤ → ℕ → ℕ
+int_bit z i = unsigned_abs (floor_mod (floor_div z (pos (2 ^ i))) (pos 2))
 
 abbrev pub int_result : BinaryOp → ℤ → ℤ → Result ℤ IntEnd
 int_result op.Add a b = exact (a +ℤ b)
@@ -76,7 +76,10 @@ int_result op.Xor a b = Ok (int_bit_xor w128 a b)
 int_result op.Div a b = true_quotient a b
 
 -- `~a` has each bit of a turned, so it is -a - 1
+abbrev pub complement : ℤ → ℤ
+complement a = neg_ℤ a -ℤ pos 1
+
 abbrev pub unary_result : UnaryOp → ℤ → Result ℤ IntEnd
 unary_result unary.Neg a = exact (neg_ℤ a)
 unary_result unary.Pos a = Ok a
-unary_result unary.Invert a = Ok (neg_ℤ a -ℤ pos 1)
+unary_result unary.Invert a = Ok (complement a)

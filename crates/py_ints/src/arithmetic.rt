@@ -101,11 +101,7 @@ fn floor_mod(a: i128, b: i128) -> Result<i128, IntEnd>
     if b > 0 {
         return Ok(rest);
     }
-    if rest == 0 {
-        Ok(0)
-    } else {
-        Ok(rest + b)
-    }
+    if rest == 0 { Ok(0) } else { Ok(rest + b) }
 }
 
 fn pow(a: i128, b: i128) -> Result<i128, IntEnd>

@@ -11,10 +11,13 @@ mod tests;
 mod writing;
 
 pub use arithmetic::{IntEnd, int_binary, int_compare, int_unary};
-pub use arithmetic_laws::{division_has_one_answer, division_leaves_the_remainder};
+pub use arithmetic_laws::{
+    bits_are_taken_in_pairs, bits_are_turned, division_has_one_answer,
+    division_leaves_the_remainder,
+};
 pub use laws::{
     int_texts_are_few, int_texts_are_read_back, int_texts_are_shortest, shortest_texts_are_written,
 };
-pub use rp_base::{BinaryOp as IntOp, UnaryOp as IntUnary};
 pub use reading::{IntText, read_int};
+pub use rp_base::{BinaryOp as IntOp, UnaryOp as IntUnary};
 pub use writing::write_int;

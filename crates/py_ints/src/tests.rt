@@ -1,4 +1,6 @@
-use crate::{IntEnd, IntOp, IntText, IntUnary, int_binary, int_compare, int_unary, read_int, write_int};
+use crate::{
+    IntEnd, IntOp, IntText, IntUnary, int_binary, int_compare, int_unary, read_int, write_int,
+};
 use std::cmp::Ordering;
 use std::test::Fail;
 
@@ -86,9 +88,13 @@ fn sums_and_products(rt: HostRuntime) {
     assert!(rt; gives(IntOp::Add, MAX, MIN, -1) && ends(IntOp::Add, MAX, 1, IntEnd::BeyondInt));
     assert!(rt; gives(IntOp::Sub, -1, MAX, MIN) && ends(IntOp::Sub, 0, MIN, IntEnd::BeyondInt));
     assert!(rt; gives(IntOp::Mul, MIN, 1, MIN) && ends(IntOp::Mul, MIN, -1, IntEnd::BeyondInt));
-    assert!(rt; int_unary(IntUnary::Neg, MAX) == Ok(-MAX) && int_unary(IntUnary::Pos, MIN) == Ok(MIN));
+    assert!(rt;
+        int_unary(IntUnary::Neg, MAX) == Ok(-MAX) && int_unary(IntUnary::Pos, MIN) == Ok(MIN)
+    );
     assert!(rt; int_unary(IntUnary::Neg, MIN) == Err(IntEnd::BeyondInt));
-    assert!(rt; int_unary(IntUnary::Invert, 5) == Ok(-6) && int_unary(IntUnary::Invert, MIN) == Ok(MAX));
+    assert!(rt;
+        int_unary(IntUnary::Invert, 5) == Ok(-6) && int_unary(IntUnary::Invert, MIN) == Ok(MAX)
+    );
     assert!(rt; int_compare(MIN, -1) == Ordering::Less && int_compare(3, 3) == Ordering::Equal);
 }
 
@@ -96,7 +102,9 @@ fn sums_and_products(rt: HostRuntime) {
 fn powers(rt: HostRuntime) {
     assert!(rt; gives(IntOp::Pow, 2, 10, 1024) && gives(IntOp::Pow, -3, 3, -27));
     assert!(rt; gives(IntOp::Pow, -2, 127, MIN) && ends(IntOp::Pow, 2, 127, IntEnd::BeyondInt));
-    assert!(rt; gives(IntOp::Pow, 0, 0, 1) && gives(IntOp::Pow, 0, HUGE, 0) && gives(IntOp::Pow, 1, MAX, 1));
+    assert!(rt;
+        gives(IntOp::Pow, 0, 0, 1) && gives(IntOp::Pow, 0, HUGE, 0) && gives(IntOp::Pow, 1, MAX, 1)
+    );
     assert!(rt; gives(IntOp::Pow, -1, HUGE, 1) && gives(IntOp::Pow, -1, MAX, -1));
     assert!(rt; ends(IntOp::Pow, 2, HUGE, IntEnd::BeyondInt));
     assert!(rt;
@@ -106,10 +114,16 @@ fn powers(rt: HostRuntime) {
 
 #[test]
 fn shifts(rt: HostRuntime) {
-    assert!(rt; gives(IntOp::Shl, 1, 126, MAX / 2 + 1) && ends(IntOp::Shl, 1, 127, IntEnd::BeyondInt));
+    assert!(rt;
+        gives(IntOp::Shl, 1, 126, MAX / 2 + 1) && ends(IntOp::Shl, 1, 127, IntEnd::BeyondInt)
+    );
     assert!(rt; gives(IntOp::Shl, -1, 127, MIN) && ends(IntOp::Shl, -1, 128, IntEnd::BeyondInt));
     assert!(rt; gives(IntOp::Shl, 0, HUGE, 0) && ends(IntOp::Shl, MIN, 1, IntEnd::BeyondInt));
-    assert!(rt; gives(IntOp::Shr, -5, 1, -3) && gives(IntOp::Shr, 5, 1, 2) && gives(IntOp::Shr, MIN, 127, -1));
+    assert!(rt;
+        gives(IntOp::Shr, -5, 1, -3)
+            && gives(IntOp::Shr, 5, 1, 2)
+            && gives(IntOp::Shr, MIN, 127, -1)
+    );
     assert!(rt; gives(IntOp::Shr, MAX, 1000, 0) && gives(IntOp::Shr, MIN, HUGE, -1));
     assert!(rt;
         ends(IntOp::Shl, 1, -1, IntEnd::NegShift) && ends(IntOp::Shr, 0, MIN, IntEnd::NegShift)

@@ -1,6 +1,5 @@
-use Rattle.std.proofs.Common.{◌≡◌, ◌≢◌, ℤ, pos, negsuc, ◌<ℤ◌, of_z, ap, ◌∙◌, arith}
+use Rattle.std.proofs.Common.{pos, ◌<ℤ◌, of_z, ap, ◌∙◌}
 use Rattle.std.specs.Int.{w128, int_div_euclid, int_rem_euclid}
-use Rattle.std.proofs.lemmas.Int.{ints}
 use Rattle.py_ints.proofs.Fitting.{plain_args, below_zero, zero_is, quotient_whole, quotient_part}
 use Rattle.py_ints.proofs.arithmetic.floor_div.Goals as goal
 
