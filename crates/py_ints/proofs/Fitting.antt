@@ -29,8 +29,11 @@ too_wide z wide = split (fits z) refl
     split false e = rw e refl
 
 -- the code's number q, where it is z
+pub read : (q z : ℤ) → q ≡ z → FitsSigned w128 z → to_z w128 (of_z w128 q) ≡ z
+read q z e f = ap (λ (x : ℤ). to_z w128 (of_z w128 x)) e ∙ to_z-of_z w128 z f
+
 pub given : (q z : ℤ) → q ≡ z → FitsSigned w128 z → Ok (to_z w128 (of_z w128 q)) ≡ exact z
-given q z e f = ap (λ (x : ℤ). Ok (to_z w128 (of_z w128 x))) e ∙ ap Ok (to_z-of_z w128 z f) ∙ held z f
+given q z e f = ap Ok (read q z e f) ∙ held z f
 
 pub plain_args : (f : ℤ → ℤ → ℤ) (a b : ℤ) → FitsSigned w128 a → FitsSigned w128 b → f (to_z w128 (of_z w128 a)) (to_z w128 (of_z w128 b)) ≡ f a b
 plain_args f a b fa fb = λ i. f (to_z-of_z w128 a fa i) (to_z-of_z w128 b fb i)
@@ -79,13 +82,13 @@ remainder_fits (pos zero) d f = let low : d < 2 ^ 127 = f.sfits in opposite (0 %
 remainder_fits (pos (suc a)) d f = let low : d < 2 ^ 127 = f.sfits in opposite (suc d - 1 - a % suc d) (omega arith)
 remainder_fits (negsuc a) d f = let low : d < 2 ^ 127 = f.sfits in opposite (suc a % suc d) (omega (arith, rest_below (suc a) d))
 
-pub remainder_whole : (a b r : ℤ) → FitsSigned w128 b → b <ℤ pos 0 → r ≡ int_rem_euclid a b → r ≡ pos 0 → Ok (pos 0) ≡ remainder a b
-remainder_whole a (negsuc b) r f h u none = held (pos 0) (record { sfits = omega arith }) ∙ ap exact (sym none ∙ u ∙ (down_whole a b (sym u ∙ none)).1)
-remainder_whole a (pos b) r f h u none = absurd (omega (arith, ints))
+pub remainder_whole : (a b r : ℤ) → b <ℤ pos 0 → r ≡ int_rem_euclid a b → r ≡ pos 0 → Ok (pos 0) ≡ remainder a b
+remainder_whole a (negsuc b) r h u none = ap Ok (sym none ∙ u ∙ (down_whole a b (sym u ∙ none)).1)
+remainder_whole a (pos b) r h u none = absurd (omega (arith, ints))
 
 pub remainder_part : (a b r : ℤ) → FitsSigned w128 b → b <ℤ pos 0 → FitsSigned w128 r → r ≡ int_rem_euclid a b → r ≢ pos 0 → Ok (to_z w128 (of_z w128 (to_z w128 (of_z w128 r) +ℤ to_z w128 (of_z w128 b)))) ≡ remainder a b
 remainder_part a (negsuc b) r f h g u some =
-    given (to_z w128 (of_z w128 r) +ℤ to_z w128 (of_z w128 (negsuc b))) (floor_mod a (negsuc b))
+    ap Ok (read (to_z w128 (of_z w128 r) +ℤ to_z w128 (of_z w128 (negsuc b))) (floor_mod a (negsuc b))
     (plain_args (λ (x y : ℤ). x +ℤ y) r (negsuc b) g f ∙ ap (λ (x : ℤ). x +ℤ negsuc b) u ∙ (down_part a b (λ k. some (u ∙ k))).1)
-    (remainder_fits a b f)
+    (remainder_fits a b f))
 remainder_part a (pos b) r f h g u some = absurd (omega (arith, ints))

@@ -39,7 +39,7 @@ quotient a b = exact (floor_div a b)
 
 abbrev pub remainder : ℤ → ℤ → Result ℤ IntEnd
 remainder a (pos zero) = Err end.DivZero
-remainder a b = exact (floor_mod a b)
+remainder a b = Ok (floor_mod a b)
 
 -- a power below 0 would be a float, or divides by 0
 abbrev pub power : ℤ → ℤ → Result ℤ IntEnd

@@ -9,7 +9,7 @@ returns-then-rest-eq0 c =
     let b = c.args.b in
     let low : b <ℤ pos 0 = below_zero b c.ranges.b c.if-b-eq0.false c.if-b-gt0.false in
     let rest = c.rem_euclid-rest.ensures.value ∙ plain_args int_rem_euclid a b c.ranges.a c.ranges.b in
-    remainder_whole a b _ c.ranges.b low rest (zero_is _ (record { sfits = c.rem_euclid-rest.type_inv }) c.if-rest-eq0.true)
+    remainder_whole a b _ low rest (zero_is _ (record { sfits = c.rem_euclid-rest.type_inv }) c.if-rest-eq0.true)
 
 pub returns-else-rest-eq0 : goal.returns-else-rest-eq0
 returns-else-rest-eq0 c =
