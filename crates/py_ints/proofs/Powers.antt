@@ -2,15 +2,41 @@
 use Rattle.std.proofs.Common.{◌≡◌, ◌≢◌, ℕ, zero, suc, ◌-◌, ◌*◌, ◌/◌, ◌%◌, ◌^◌, ◌<◌, ◌≤◌, ℤ, pos, negsuc, neg_ℤ, ◌*ℤ◌, ◌<ℤ◌, ◌≤ℤ◌, FitsSigned, Bool, true, false, cond, eqb, Ok, Err, refl, sym, ap, ◌∙◌, subst, to_z, of_z, arith}
 use Rattle.std.specs.Int.{w128, int_pow}
 use Rattle.std.specs.Int.RustNames.{unsigned_abs}
-use Rattle.std.proofs.lemmas.Bool.{ne_eqb}
+use Rattle.std.proofs.lemmas.Bool.{eqb-true, ne_eqb}
 use Rattle.std.specs.Int.Signed.{rem_z}
 use Rattle.std.proofs.lemmas.Int.{ints, to_z-of_z, to_z_pos}
 use Rattle.std.proofs.lemmas.Nat.{pow_pos}
-use Rattle.std.proofs.Math.Nat.{div-eq_of_lt, mod-eq_of_lt, pow-suc, pow-le-pow_left, mul-le-mul_left}
+use Rattle.std.proofs.Math.Nat.{div-eq_of_lt, mod-eq_of_lt, pow-suc, pow-zero, pow-le-pow_left, mul-le-mul_left}
 use Rattle.std.proofs.Math.Pow.{pow_mono}
 use Rattle.py_ints.specs.Arithmetic.{exact, power, left_shift, right_shift}
 use Rattle.py_ints.specs.declared.arithmetic.IntEnd.TheVariants as end
 use Rattle.py_ints.proofs.Fitting.{too_wide, given, plain_args}
+
+-- ---- a power is a product
+
+opposite_twice : (n a : ℕ) → neg_ℤ (pos n) *ℤ negsuc a ≡ pos (n * suc a)
+opposite_twice zero a = omega (arith, ints)
+opposite_twice (suc n) a = refl
+
+not_even : (k : ℕ) → eqb (k % 2) 0 ≡ false → k % 2 ≢ 0
+not_even k h is = let wrong : true ≡ false = ap (λ (n : ℕ). eqb n 0) (sym is) ∙ h in cc
+
+pub no_power : (a : ℤ) → int_pow a 0 ≡ pos 1
+no_power (pos a) = ap pos (pow-zero a)
+no_power (negsuc a) = ap pos (pow-zero (suc a))
+
+pub one_more : (a : ℤ) (e : ℕ) → int_pow a (suc e) ≡ int_pow a e *ℤ a
+one_more (pos a) e = ap pos (pow-suc a e)
+one_more (negsuc a) e = split (eqb (e % 2) 0) (eqb (suc e % 2) 0) refl refl
+  where
+    step : suc a ^ suc e ≡ suc a ^ e * suc a
+    step = pow-suc (suc a) e
+
+    split : (t u : Bool) → eqb (e % 2) 0 ≡ t → eqb (suc e % 2) 0 ≡ u → cond u (pos (suc a ^ suc e)) (neg_ℤ (pos (suc a ^ suc e))) ≡ cond t (pos (suc a ^ e)) (neg_ℤ (pos (suc a ^ e))) *ℤ negsuc a
+    split true false even odd = ap (λ (n : ℕ). neg_ℤ (pos n)) step
+    split false true odd even = ap pos step ∙ sym (opposite_twice (suc a ^ e) a)
+    split true true even odd = absurd (omega (arith, eqb-true (e % 2) 0 even, eqb-true (suc e % 2) 0 odd))
+    split false false even odd = absurd (omega (arith, not_even e even, not_even (suc e) odd))
 
 -- ---- what is too large
 

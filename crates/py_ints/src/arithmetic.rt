@@ -19,7 +19,7 @@ pub enum IntEnd {
 }
 
 /// What Python makes of `a op b`, or the named end: ints never wrap. `/` and a power below 0 are `DivZero` where they
-/// divide by 0, and `BeyondFloat` otherwise. Takes no memory, and no longer for a greater exponent or count.
+/// divide by 0, and `BeyondFloat` otherwise. Takes no memory, and a bounded time whatever the exponent or count.
 pub fn int_binary(op: IntOp, a: i128, b: i128) -> Result<i128, IntEnd>
     ensures { result ≡ int_result op a b }
 {

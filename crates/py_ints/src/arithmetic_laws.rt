@@ -1,5 +1,5 @@
 ghost use Rattle.std.specs.Prelude.{◌≡◌, ◌≢◌, ◌+◌, ◌-◌, ◌%◌, min, max, ℕ, ℤ, pos, ◌+ℤ◌, ◌*ℤ◌, IsTrue};
-ghost use Rattle.std.specs.Int.{w128, int_bit_and, int_bit_or, int_bit_xor};
+ghost use Rattle.std.specs.Int.{w128, int_bit_and, int_bit_or, int_bit_xor, int_pow};
 ghost use Rattle.py_ints.specs.IntTexts.{fits};
 ghost use Rattle.py_ints.specs.Arithmetic.{floor_div, floor_mod, IsRemainderOf, int_bit, complement};
 
@@ -13,6 +13,12 @@ pub fn division_leaves_the_remainder()
 /// No other two numbers are so related to dividend and divisor.
 pub fn division_has_one_answer()
     ensures { (a b q r : ℤ) → q *ℤ b +ℤ r ≡ a → IsRemainderOf b r → (q ≡ floor_div a b) × (r ≡ floor_mod a b) }
+{}
+
+/// A power with exponent 0 is 1, and one exponent more is one product more.
+pub fn powers_are_products()
+    ensures none { (a : ℤ) → int_pow a 0 ≡ pos 1 }
+    ensures more { (a : ℤ) (e : ℕ) → int_pow a (e + 1) ≡ int_pow a e *ℤ a }
 {}
 
 /// Bit i of `a & b`, `a | b` and `a ^ b` is 1 where both bits i are, where one of them is, and where they differ. This holds

@@ -13,7 +13,7 @@ mod writing;
 pub use arithmetic::{IntEnd, int_binary, int_compare, int_unary};
 pub use arithmetic_laws::{
     bits_are_taken_in_pairs, bits_are_turned, division_has_one_answer,
-    division_leaves_the_remainder,
+    division_leaves_the_remainder, powers_are_products,
 };
 pub use laws::{
     int_texts_are_few, int_texts_are_read_back, int_texts_are_shortest, shortest_texts_are_written,
