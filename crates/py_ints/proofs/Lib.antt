@@ -1,1 +1,5 @@
+pub mod BitLaws
+pub mod Division
 pub mod Examples
+pub mod Fitting
+pub mod Powers
