@@ -1,7 +1,9 @@
 //! Functions on texts: their characters, searches, splitting, joining, replacing, and how a text or a byte string is
-//! printed.
+//! printed. A position counts characters, as in Python, and not bytes.
 #![tactic(auto)]
 
 mod ends;
+mod searching;
 
 pub use ends::StrEnd;
+pub use searching::{ends_with, find_text, starts_with, text_at, text_len};
