@@ -4,6 +4,8 @@
 
 mod ends;
 mod searching;
+mod stripping;
 
 pub use ends::StrEnd;
 pub use searching::{ends_with, find_text, starts_with, text_at, text_len};
+pub use stripping::strip_text;

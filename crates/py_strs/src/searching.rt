@@ -47,5 +47,8 @@ pub fn text_at(s: &str, i: i128) -> Option<char>
 fn character_behind(s: &str, place: i128) -> Option<char>
     ensures { result ≡ character_behind (chars s.now) place }
 {
+    if place >= str::len(s) as i128 {
+        return None;
+    }
     s.chars().nth(usize::try_from(place).ok()?)
 }
