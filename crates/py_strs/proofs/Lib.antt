@@ -1,3 +1,4 @@
 pub mod Places
 pub mod Positions
 pub mod Stripped
+pub mod Rows

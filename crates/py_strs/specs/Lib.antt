@@ -1,2 +1,4 @@
 pub mod Searching
 pub mod Spaces
+pub mod Joining
+pub mod Splitting

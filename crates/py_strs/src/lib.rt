@@ -3,9 +3,13 @@
 #![tactic(auto)]
 
 mod ends;
+mod joining;
 mod searching;
+mod splitting;
 mod stripping;
 
 pub use ends::StrEnd;
+pub use joining::join_texts;
 pub use searching::{ends_with, find_text, starts_with, text_at, text_len};
+pub use splitting::split_text;
 pub use stripping::strip_text;
