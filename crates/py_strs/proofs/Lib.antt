@@ -2,3 +2,4 @@ pub mod Places
 pub mod Positions
 pub mod Stripped
 pub mod Rows
+pub mod Pieces

@@ -1,7 +1,7 @@
 -- Places in texts, from bytes to characters and back.
 use Rattle.std.proofs.Common.{◌≡◌, ◌↔◌, ◌≢◌, ℕ, zero, suc, ◌+◌, ◌-◌, ◌<◌, ◌≤◌, Bool, true, false, List, [], ◌∷◌, ◌++◌, Option, Some, None, length, take, drop, slice_index, MatchBool, MatchOption, IsTrue, refl, sym, ap, subst, ◌∙◌, arith, append_assoc, take-append-drop, length-append, length-take-le}
 use Rattle.std.proofs.Math.Seq.{drop-append_seam, take-append_seam}
-use Rattle.std.proofs.lemmas.Str.{chars-append, encodes-append, encodes-chars, IsUtf8-take, IsUtf8-drop, IsUtf8-past_char, IsCharBoundary-start, IsCharBoundary-from_drop, chars_past_char, length-encode, len_utf8_bounds}
+use Rattle.std.proofs.lemmas.Str.{chars-append, encodes-append, encodes-chars, IsUtf8-take, IsUtf8-drop, IsUtf8-past_char, IsCharBoundary-start, IsCharBoundary-from_drop, IsCharBoundary-at_seam, chars_past_char, length-encode, len_utf8_bounds}
 use Rattle.std.specs.Str.{chars, IsUtf8, IsCharBoundary}
 use Rattle.std.specs.Str.Pattern.{FindsTextPrefix, FindsTextSuffix, HasPrefixMatch, HasSuffixMatch}
 use Rattle.memchr.specs.Find.{OccursAt, FindsNeedle}
@@ -109,3 +109,23 @@ nowhere s part us up h k (before, later, e, is) =
     let here = occurs s (encodes before) part (encodes later) whole in
     let fits = here.fits in
     h (length (encodes before)) (omega arith) (omega arith) here
+
+-- what a cut at such a place leaves
+pub record CutAt (s part a b : List ℕ) : Type 0 where
+  pub past : IsCharBoundary b (length part)
+  pub pieces : (rest : List ℕ) → rest ≡ drop (length part) b → (chars s ≡ chars a ++ (chars part ++ chars rest)) × IsLeastPlace (chars s) (chars part) (Some (length (chars a)))
+
+pub cut_at : (s part a b : List ℕ) (at : ℕ) → IsUtf8 s → IsUtf8 part → FindsNeedle s part 0 (Some at) → a ≡ take at s → b ≡ drop at s → CutAt s part a b
+cut_at s part a b at us up h ea eb =
+    let all = found s part at us up h in
+    let after_part : List ℕ = drop (at + length part) s in
+    let tail : b ≡ part ++ after_part = eb ∙ OccursAt-split s part at h.1 in
+    let after_text : IsUtf8 after_part = after part after_part up (subst IsUtf8 (OccursAt-split s part at h.1) (IsUtf8-drop s at us all.cut)) in
+    record {
+      past = IsCharBoundary-at_seam b part after_part tail after_text;
+      pieces = λ rest is.
+        let same : rest ≡ after_part = is ∙ ap (drop (length part)) tail ∙ drop-append_seam part after_part in
+        let split : chars s ≡ chars a ++ (chars part ++ chars rest) =
+            all.split ∙ ap (λ (l : List ℕ). chars l ++ (chars part ++ chars after_part)) (sym ea) ∙ ap (λ (l : List ℕ). chars a ++ (chars part ++ chars l)) (sym same) in
+        (split, subst (λ (l : List ℕ). IsLeastPlace (chars s) (chars part) (Some (length (chars l)))) (sym ea) all.least);
+    }

@@ -13,8 +13,8 @@ use std::alloc::{AllocError, Global};
 /// The pieces between separators, cut from the left, or without a separator the runs of characters that are no white
 /// space. `EmptySep` exactly for an empty separator.
 pub fn split_text(alloc: Global, s: &str, sep: Option<&str>) -> Result<Vec<String>, StrEnd>
-    ensures ok { IfOk result (λ v. MatchOption sep (IsWords (chars s.now) (map characters v.items)) (λ x. IsSplit (chars x.now) (chars s.now) (map characters v.items))) }
-    ensures empty { IsErrOf result end.EmptySep ↔ IsSomeAnd sep (λ x. length x.now ≡ 0) }
+    ensures ok { IfOk result (λ v. MatchOption sep.entry (IsWords (chars s.now) (map characters v.items)) (λ x. IsSplit (chars x.now) (chars s.now) (map characters v.items))) }
+    ensures empty { IsErrOf result end.EmptySep ↔ IsSomeAnd sep.entry (λ x. length x.now ≡ 0) }
     ensures no_size { ¬ (IsErrOf result end.Size) }
 {
     let Some(sep) = sep else {
@@ -65,12 +65,15 @@ fn without_front(s: &str) -> &str
     s.trim_start_matches(is_space)
 }
 
-/// The characters before the first white space, and the rest.
+/// The characters before the first white space, and the rest. The text begins with one that is no white space.
 fn first_word(s: &str) -> (&str, &str)
+    requires some { 0 < length s.now }
+    requires bare { begins_bare (chars s.now) ≡ true }
     ensures split { chars s.now ≡ chars result.0.now ++ chars result.1.now }
     ensures word { no_spaces (chars result.0.now) ≡ true }
     ensures rest { is_spaced (chars result.1.now) ≡ true }
-    ensures size { length result.0.now + length result.1.now ≡ length s.now }
+    ensures some { 0 < length (chars result.0.now) }
+    ensures falls { length result.1.now < length s.now }
 {
     match s.find(is_space) {
         Some(at) => s.split_at(at),
