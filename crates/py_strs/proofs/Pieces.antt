@@ -6,7 +6,7 @@ use Rattle.std.proofs.lemmas.Str.{chars-append, chars-nil, encodes-chars, IsUtf8
 use Rattle.std.specs.Str.{chars, IsUtf8, IsCharBoundary, NonePass}
 use Rattle.std.specs.Str.Pattern.{FindsBy, MatchBeginsAt}
 use lib.Utf8.{encode, encodes}
-use Rattle.py_strs.specs.Joining.{characters}
+use Rattle.py_strs.specs.Joining.{characters, joined}
 use Rattle.py_strs.specs.Searching.{IsLeastPlace}
 use Rattle.py_strs.specs.Spaces.{is_space, all_spaces, no_spaces, begins_bare}
 use Rattle.py_strs.specs.Splitting.{IsSplit, IsWords, is_spaced}
@@ -118,3 +118,12 @@ pub end_words : {A : Type 0} (s rest : List ℕ) (made : List (String A)) → re
 end_words s rest made none so_far =
     let end : all_spaces (chars rest) ≡ true = ap (λ (l : List ℕ). all_spaces (chars l)) none ∙ ap all_spaces chars-nil in
     subst (IsWords (chars s)) (append-nil (map characters made)) (so_far [] end)
+
+pub start_words : {A : Type 0} (s rest gap : List ℕ) (made : List (String A)) → made ≡ [] → chars s ≡ gap ++ chars rest → all_spaces gap ≡ true → (ps : List (List ℕ)) → IsWords (chars rest) ps → IsWords (chars s) (map characters made ++ ps)
+start_words {A} s rest gap made none e g ps h =
+    subst (λ (l : List (String A)). IsWords (chars s) (map characters l ++ ps)) (sym none) (subst (λ (l : List ℕ). IsWords l ps) (sym e) (with_gap gap (chars rest) ps g h))
+
+pub rejoined : (sep text : List ℕ) (ps : List (List ℕ)) → IsSplit sep text ps → joined sep ps ≡ text
+rejoined sep text [] h = absurd h
+rejoined sep text (p ∷ []) h = append-nil p ∙ sym h.0
+rejoined sep text (p ∷ q ∷ ps) (rest, e, least, h) = ap (λ (l : List ℕ). p ++ (sep ++ l)) (rejoined sep rest (q ∷ ps) h) ∙ sym e

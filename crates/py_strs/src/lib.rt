@@ -4,12 +4,16 @@
 
 mod ends;
 mod joining;
+mod laws;
+mod replacing;
 mod searching;
 mod splitting;
 mod stripping;
 
 pub use ends::StrEnd;
 pub use joining::join_texts;
+pub use laws::pieces_join_to_the_text;
+pub use replacing::replace_text;
 pub use searching::{ends_with, find_text, starts_with, text_at, text_len};
 pub use splitting::split_text;
 pub use stripping::strip_text;

@@ -27,7 +27,7 @@ pub fn split_text(alloc: Global, s: &str, sep: Option<&str>) -> Result<Vec<Strin
 }
 
 /// The pieces between separators.
-fn pieces(alloc: Global, s: &str, sep: &str) -> Result<Vec<String>, AllocError>
+pub(crate) fn pieces(alloc: Global, s: &str, sep: &str) -> Result<Vec<String>, AllocError>
     requires { 0 < length sep.now }
     ensures { IfOk result (λ v. IsSplit (chars sep.now) (chars s.now) (map characters v.items)) }
 {
