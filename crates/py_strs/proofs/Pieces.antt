@@ -1,11 +1,11 @@
 -- Steps of cutting a text.
-use Rattle.std.proofs.Common.{◌≡◌, ℕ, zero, suc, ◌+◌, ◌<◌, ◌≤◌, Bool, true, false, not, List, [], ◌∷◌, ◌++◌, Option, Some, None, length, map, take, drop, refl, sym, ap, subst, ◌∙◌, arith, append_assoc, append-nil, length-append, take-append-drop, string_bytes, String}
+use Rattle.std.proofs.Common.{◌≡◌, ℕ, ◌+◌, ◌<◌, Bool, true, false, not, List, [], ◌∷◌, ◌++◌, Some, None, length, map, take, drop, refl, sym, ap, subst, ◌∙◌, arith, append_assoc, append-nil, length-append, take-append-drop, string_bytes, String}
 use Rattle.std.proofs.lemmas.Bool.{and_from}
 use Rattle.std.proofs.lemmas.List.{map-append}
 use Rattle.std.proofs.lemmas.Str.{chars-append, chars-nil, encodes-chars, IsUtf8-take, IsUtf8-drop, chars_past_char, chars_from_encodes}
-use Rattle.std.specs.Str.{chars, IsUtf8, IsCharBoundary, NonePass}
+use Rattle.std.specs.Str.{chars, IsUtf8, NonePass}
 use Rattle.std.specs.Str.Pattern.{FindsBy, MatchBeginsAt}
-use lib.Utf8.{encode, encodes}
+use lib.Utf8.{encodes}
 use Rattle.py_strs.specs.Joining.{characters, joined}
 use Rattle.py_strs.specs.Searching.{IsLeastPlace}
 use Rattle.py_strs.specs.Spaces.{is_space, all_spaces, no_spaces, begins_bare}

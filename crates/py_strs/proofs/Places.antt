@@ -1,13 +1,13 @@
 -- Places in texts, from bytes to characters and back.
-use Rattle.std.proofs.Common.{◌≡◌, ◌↔◌, ◌≢◌, ℕ, zero, suc, ◌+◌, ◌-◌, ◌<◌, ◌≤◌, Bool, true, false, List, [], ◌∷◌, ◌++◌, Option, Some, None, length, take, drop, slice_index, MatchBool, MatchOption, IsTrue, refl, sym, ap, subst, ◌∙◌, arith, append_assoc, take-append-drop, length-append, length-take-le}
+use Rattle.std.proofs.Common.{◌≡◌, ◌↔◌, ℕ, zero, suc, ◌+◌, ◌-◌, ◌<◌, ◌≤◌, Bool, true, false, List, [], ◌∷◌, ◌++◌, Option, Some, None, length, take, drop, slice_index, MatchBool, IsTrue, refl, sym, ap, subst, ◌∙◌, arith, append_assoc, take-append-drop, length-append, length-take-le}
 use Rattle.std.proofs.Math.Seq.{drop-append_seam, take-append_seam}
-use Rattle.std.proofs.lemmas.Str.{chars-append, encodes-append, encodes-chars, IsUtf8-take, IsUtf8-drop, IsUtf8-past_char, IsCharBoundary-start, IsCharBoundary-from_drop, IsCharBoundary-at_seam, chars_past_char, length-encode, len_utf8_bounds}
+use Rattle.std.proofs.lemmas.Str.{chars-append, encodes-append, encodes-chars, IsUtf8-take, IsUtf8-drop, IsUtf8-past_char, IsCharBoundary-start, IsCharBoundary-from_drop, IsCharBoundary-at_seam, length-encode, len_utf8_bounds}
 use Rattle.std.specs.Str.{chars, IsUtf8, IsCharBoundary}
 use Rattle.std.specs.Str.Pattern.{FindsTextPrefix, FindsTextSuffix, HasPrefixMatch, HasSuffixMatch}
 use Rattle.memchr.specs.Find.{OccursAt, FindsNeedle}
 use Rattle.memchr.proofs.lemmas.MatchLemmas.{OccursAt-from_part, OccursAt-split}
 use lib.Utf8.{encode, encodes}
-use Rattle.py_strs.specs.Searching.{BeginsWith, EndsIn, StandsAt, IsLeastPlace}
+use Rattle.py_strs.specs.Searching.{BeginsWith, EndsIn, IsLeastPlace}
 
 -- what follows a text within a text is a text
 rest_utf8 : (cs rest : List ℕ) → IsUtf8 (encodes cs ++ rest) → IsUtf8 rest
@@ -96,11 +96,14 @@ found s part at us up h =
       cut = cut;
       past = IsCharBoundary-from_drop s (at + length part) h.1.fits rest_text;
       split = split;
-      least = ((chars front, chars rest, split, refl), λ j less (before, later, e, is).
-        let more = longer (chars front) before (chars part ++ chars rest) (chars part ++ later) (sym split ∙ e) (subst (λ (n : ℕ). n < length (chars front)) (sym is) less) in
-        let grown : length (encodes before) < length (encodes (chars front)) = subst (λ (l : List ℕ). length (encodes before) < length (encodes l)) (sym more.2) (encodes_grow before more.1 more.0) in
-        let bytes : length (encodes (chars front)) ≡ length front = ap length (encodes-chars front front_text) in
-        h.0.before (length (encodes before)) (omega arith) (omega (arith, grown, bytes, size)) (occurs s (encodes before) part (encodes later) (spelled s part before later us up e)));
+      least = (
+        (chars front, chars rest, split, refl),
+        λ j less (before, later, e, is).
+            let more = longer (chars front) before (chars part ++ chars rest) (chars part ++ later) (sym split ∙ e) (subst (λ (n : ℕ). n < length (chars front)) (sym is) less) in
+            let grown : length (encodes before) < length (encodes (chars front)) = subst (λ (l : List ℕ). length (encodes before) < length (encodes l)) (sym more.2) (encodes_grow before more.1 more.0) in
+            let bytes : length (encodes (chars front)) ≡ length front = ap length (encodes-chars front front_text) in
+            h.0.before (length (encodes before)) (omega arith) (omega (arith, grown, bytes, size)) (occurs s (encodes before) part (encodes later) (spelled s part before later us up e)),
+      );
     }
 
 pub nowhere : (s part : List ℕ) → IsUtf8 s → IsUtf8 part → FindsNeedle s part 0 None → IsLeastPlace (chars s) (chars part) None
@@ -124,8 +127,8 @@ cut_at s part a b at us up h ea eb =
     record {
       past = IsCharBoundary-at_seam b part after_part tail after_text;
       pieces = λ rest is.
-        let same : rest ≡ after_part = is ∙ ap (drop (length part)) tail ∙ drop-append_seam part after_part in
-        let split : chars s ≡ chars a ++ (chars part ++ chars rest) =
-            all.split ∙ ap (λ (l : List ℕ). chars l ++ (chars part ++ chars after_part)) (sym ea) ∙ ap (λ (l : List ℕ). chars a ++ (chars part ++ chars l)) (sym same) in
-        (split, subst (λ (l : List ℕ). IsLeastPlace (chars s) (chars part) (Some (length (chars l)))) (sym ea) all.least);
+          let same : rest ≡ after_part = is ∙ ap (drop (length part)) tail ∙ drop-append_seam part after_part in
+          let split : chars s ≡ chars a ++ (chars part ++ chars rest) =
+          all.split ∙ ap (λ (l : List ℕ). chars l ++ (chars part ++ chars after_part)) (sym ea) ∙ ap (λ (l : List ℕ). chars a ++ (chars part ++ chars l)) (sym same) in
+          (split, subst (λ (l : List ℕ). IsLeastPlace (chars s) (chars part) (Some (length (chars l)))) (sym ea) all.least);
     }

@@ -1,9 +1,9 @@
 -- The character at a position, and what the iterator over characters gives.
-use Rattle.std.proofs.Common.{◌≡◌, ℕ, zero, suc, ◌+◌, ◌<◌, ◌≤◌, ◌^◌, List, [], ◌∷◌, ◌++◌, Option, Some, None, length, refl, sym, ap, subst, ◌∙◌, arith, append-nil, ℤ, pos, negsuc, ◌≤ℤ◌, ◌<ℤ◌}
+use Rattle.std.proofs.Common.{◌≡◌, ℕ, ◌<◌, ◌≤◌, ◌^◌, List, [], ◌∷◌, ◌++◌, Option, Some, None, length, refl, sym, ap, subst, ◌∙◌, arith, append-nil, ℤ, pos, negsuc, ◌≤ℤ◌}
 use Rattle.std.proofs.lemmas.Str.{IsUtf8-past_char, chars_past_char, encodes-chars, length-le-encodes}
 use Rattle.std.proofs.lemmas.Int.{ints, to_z-of_z, to_z_pos}
 use Rattle.std.specs.Result.{OkIff, result_ok}
-use Rattle.std.proofs.Common.{Result, Ok, Err, Bool, true}
+use Rattle.std.proofs.Common.{Result, Ok, Err, true}
 use mir.Val.{SFits, of_z, to_z}
 use mir.Syntax.{w128}
 use lib.Signed.{le_z}

@@ -1,6 +1,6 @@
 -- Texts in a row, as bytes and as characters.
-use Rattle.std.proofs.Common.{◌≡◌, ℕ, ◌+◌, ◌<◌, ◌≤◌, List, [], ◌∷◌, ◌++◌, length, map, refl, sym, ap, subst, ◌∙◌, arith, append_assoc, append-nil, length-append, string_bytes, String}
-use Rattle.std.proofs.lemmas.Str.{chars-append, chars-nil, encodes-chars, encodes-append, IsUtf8-string_bytes, IsUtf8-append, IsUtf8-nil}
+use Rattle.std.proofs.Common.{◌≡◌, ℕ, ◌+◌, ◌<◌, ◌≤◌, List, [], ◌∷◌, ◌++◌, length, map, sym, ap, subst, ◌∙◌, arith, append_assoc, append-nil, length-append, string_bytes, String}
+use Rattle.std.proofs.lemmas.Str.{chars-append, chars-nil, encodes-chars, IsUtf8-string_bytes, IsUtf8-append, IsUtf8-nil}
 use Rattle.std.specs.Str.{chars, IsUtf8}
 use Rattle.std.proofs.Common.{suc, drop, get_or}
 use Rattle.std.proofs.Math.Seq.{drop-cons}
@@ -70,7 +70,7 @@ module _ (A : Type 0) (sep : List ℕ) (text : IsUtf8 sep) where
       let rest : List ℕ = followed sep (map string_bytes (drop (suc i) others)) in
       let next : drop i others ≡ x ∷ drop (suc i) others = drop-cons others i x l ∙ ap (λ (y : String A). y ∷ drop (suc i) others) (sym is) in
       let shape : followed sep (map string_bytes (drop i others)) ≡ (sep ++ part) ++ rest =
-          ap (λ (l : List (String A)). followed sep (map string_bytes l)) next ∙ ap (λ (b : List ℕ). sep ++ (b ++ rest)) (sym shown) ∙ sym (append_assoc sep part rest) in
+      ap (λ (l : List (String A)). followed sep (map string_bytes l)) next ∙ ap (λ (b : List ℕ). sep ++ (b ++ rest)) (sym shown) ∙ sym (append_assoc sep part rest) in
       too_long parts made (sep ++ part) rest (ap (λ (b : List ℕ). made ++ b) (sym shape) ∙ e) (subst (λ (n : ℕ). heaviest_value ≤ length made + n) (sym (length-append sep part)) h)
 
   pub all_done : (t : String A) (parts others : List (String A)) (i : ℕ) → length others ≤ i → string_bytes t ++ followed sep (map string_bytes (drop i others)) ≡ bytes parts → length (string_bytes t) < heaviest_value → Made t parts

@@ -1,13 +1,13 @@
 -- What is left of a text after its white space is cut off at one end, and at both.
-use Rattle.std.proofs.Common.{◌≡◌, ℕ, zero, suc, ◌+◌, ◌-◌, ◌<◌, ◌≤◌, Bool, true, false, not, ◌&&◌, List, [], ◌∷◌, ◌++◌, Option, Some, None, length, take, drop, refl, sym, ap, subst, ◌∙◌, arith, append_assoc, append-nil, reverse, IfSome, inl, inr, take-append-drop}
-use Rattle.std.proofs.lemmas.Bool.{and_from, and_parts, false≢true, cases_Bool}
+use Rattle.std.proofs.Common.{◌≡◌, ℕ, ◌-◌, Bool, true, false, not, List, [], ◌∷◌, ◌++◌, Option, Some, None, length, take, drop, refl, sym, ap, subst, ◌∙◌, arith, append_assoc, append-nil, IfSome, take-append-drop}
+use Rattle.std.proofs.lemmas.Bool.{and_from, and_parts}
 use Rattle.std.proofs.Math.Seq.{drop-length}
 use Rattle.std.proofs.lemmas.Grind.{common_steps}
 use Rattle.std.proofs.lemmas.List.{reverse-append}
 use Rattle.std.proofs.lemmas.Str.{IsUtf8-past_char, IsUtf8-take, IsUtf8-encode, chars_past_char, chars-append, encodes-chars, scalars-chars, encodes-append, len_utf8_bounds, IsCharBoundary-from_drop, chars_from_encodes}
 use Rattle.std.specs.Char.{IsScalar}
 use Rattle.std.specs.Str.{chars, IsUtf8}
-use Rattle.std.specs.Str.Pattern.{FindsPrefixBy, FindsSuffixBy, CutsPrefixes, CutsSuffixes, IsFullyTrimmed, IsTrimStartMatches, IsTrimEndMatches}
+use Rattle.std.specs.Str.Pattern.{FindsPrefixBy, FindsSuffixBy, CutsPrefixes, CutsSuffixes, IsTrimStartMatches, IsTrimEndMatches}
 use lib.Utf8.{encode, encodes, scalar, scalars}
 use Rattle.py_strs.specs.Spaces.{is_space, all_spaces, begins_bare, ends_bare, IsStripped}
 
@@ -35,14 +35,14 @@ pub record BackCut (s r : List ℕ) : Type 0 where
 
 module _ (R : List ℕ → Option ℕ → Type 0) (tells : (s : List ℕ) (o : Option ℕ) → R s o → FindsPrefixBy is_space s o) where
   cut_front : (s ns r : List ℕ) → IsUtf8 s → CutsPrefixes R s ns r → FrontCut s r
-  cut_front s [] r us e = record { text = subst IsUtf8 (sym e) us; front = []; split = ap chars (sym e); spaces = refl; }
+  cut_front s [] r us e = record { text = subst IsUtf8 (sym e) us; front = []; split = ap chars (sym e); spaces = refl }
   cut_front s (n ∷ ns) r us (m, cuts, match, is) =
       let before = cut_front s ns m us cuts in
       let one = tells m (Some n) match in
       let c : ℕ = one.0 in
       let split : m ≡ encode c ++ r = one.2.split ∙ ap (λ (l : List ℕ). encode c ++ l) (sym is) in
       let whole : chars s ≡ (before.front ++ (c ∷ [])) ++ chars r =
-          before.split ∙ ap (λ (l : List ℕ). before.front ++ l) (chars_past_char m r c before.text split) ∙ sym (append_assoc before.front (c ∷ []) (chars r)) in
+      before.split ∙ ap (λ (l : List ℕ). before.front ++ l) (chars_past_char m r c before.text split) ∙ sym (append_assoc before.front (c ∷ []) (chars r)) in
       record {
         text = IsUtf8-past_char m r c before.text split;
         front = before.front ++ (c ∷ []);
@@ -74,7 +74,7 @@ bare_end front c h = ap begins_bare (reverse-append front (c ∷ [])) ∙ bare c
 
 module _ (R : List ℕ → Option ℕ → Type 0) (tells : (s : List ℕ) (o : Option ℕ) → R s o → FindsSuffixBy is_space s o) where
   cut_back : (s ns r : List ℕ) → IsUtf8 s → CutsSuffixes R s ns r → BackCut s r
-  cut_back s [] r us e = record { text = subst IsUtf8 (sym e) us; back = []; split = ap chars (sym e) ∙ sym (append-nil (chars r)); spaces = refl; }
+  cut_back s [] r us e = record { text = subst IsUtf8 (sym e) us; back = []; split = ap chars (sym e) ∙ sym (append-nil (chars r)); spaces = refl }
   cut_back s (n ∷ ns) r us (m, cuts, match, is) =
       let before = cut_back s ns m us cuts in
       let one = tells m (Some n) match in

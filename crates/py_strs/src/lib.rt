@@ -9,6 +9,8 @@ mod replacing;
 mod searching;
 mod splitting;
 mod stripping;
+#[cfg(test)]
+mod tests;
 
 pub use ends::StrEnd;
 pub use joining::join_texts;

@@ -1,8 +1,7 @@
-use Rattle.std.proofs.Common.{rules, of_calls, ◌≡◌, ◌∙◌, sym, ap, subst, ◌<◌, ◌++◌, ℕ, List, [], length, true, append-nil, refl}
+use Rattle.std.proofs.Common.{rules, of_calls, ◌∙◌, sym, ap, ◌++◌, ℕ, List, append-nil}
 use Rattle.std.proofs.lemmas.Fn.{always_returns_same}
 use Rattle.std.proofs.lemmas.Str.{chars-nil}
 use Rattle.std.specs.Str.{chars}
-use Rattle.py_strs.specs.Spaces.{no_spaces}
 use Rattle.py_strs.specs.Splitting.{is_spaced}
 use Rattle.py_strs.proofs.Pieces.{WordCut, word_all, word_found, word_some, falls, characters_some}
 use Rattle.py_strs.proofs.splitting.first_word.Goals as goal

@@ -1,5 +1,5 @@
 use Rattle.std.proofs.Common.{rules, Some, None}
-use Rattle.py_strs.proofs.Places.{CutAt, found, nowhere, searched, cut_at}
+use Rattle.py_strs.proofs.Places.{found, nowhere, searched, cut_at}
 use Rattle.py_strs.proofs.Pieces.{step_cut, end_cut}
 use Rattle.py_strs.proofs.splitting.pieces.Goals as goal
 

@@ -1,6 +1,6 @@
 use denote.Shadow.{shadow}
 use denote.Text.{Utf8}
-use Rattle.std.proofs.Common.{◌≡◌, ◌++◌, List, ℕ, length, map}
+use Rattle.std.proofs.Common.{◌++◌, List, ℕ, length, map}
 use Rattle.std.specs.Str.{chars}
 use Rattle.py_strs.specs.Joining.{characters}
 use Rattle.py_strs.specs.Splitting.{IsSplit}
