@@ -3,3 +3,4 @@ pub mod Positions
 pub mod Stripped
 pub mod Rows
 pub mod Pieces
+pub mod OneSplit
