@@ -2,5 +2,6 @@ pub mod Places
 pub mod Positions
 pub mod Stripped
 pub mod Rows
-pub mod Pieces
+pub mod Cuts
 pub mod OneSplit
+pub mod Examples

@@ -3,7 +3,7 @@ use Rattle.std.proofs.lemmas.Fn.{always_returns_same}
 use Rattle.std.proofs.lemmas.Str.{chars-nil}
 use Rattle.std.specs.Str.{chars}
 use Rattle.py_strs.specs.Splitting.{is_spaced}
-use Rattle.py_strs.proofs.Pieces.{WordCut, word_all, word_found, word_some, falls, characters_some}
+use Rattle.py_strs.proofs.Cuts.{WordCut, word_all, word_found, word_some, falls, characters_some}
 use Rattle.py_strs.proofs.splitting.first_word.Goals as goal
 
 found : (c : goal.After-split_at) → WordCut c.args.s.now c.split_at.result.0.now c.split_at.result.1.now

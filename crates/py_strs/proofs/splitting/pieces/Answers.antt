@@ -1,6 +1,6 @@
 use Rattle.std.proofs.Common.{rules, Some, None}
 use Rattle.py_strs.proofs.Places.{found, nowhere, searched, cut_at}
-use Rattle.py_strs.proofs.Pieces.{step_cut, end_cut}
+use Rattle.py_strs.proofs.Cuts.{step_cut, end_cut}
 use Rattle.py_strs.proofs.splitting.pieces.Goals as goal
 
 pub split_at-requires : goal.split_at-requires

@@ -1,6 +1,6 @@
 use Rattle.std.proofs.Common.{rules, ◌≡◌, length}
 use Rattle.std.proofs.lemmas.List.{nil_from_length}
-use Rattle.py_strs.proofs.Pieces.{start_words, step_word, end_words}
+use Rattle.py_strs.proofs.Cuts.{start_words, step_word, end_words}
 use Rattle.py_strs.proofs.splitting.words.Goals as goal
 
 pub words-init : goal.words-init
