@@ -3,5 +3,7 @@
 #![tactic(auto)]
 
 mod ends;
+mod quoting;
 
 pub use ends::StrEnd;
+pub use quoting::{repr_bytes, repr_text};
