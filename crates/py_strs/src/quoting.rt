@@ -1,9 +1,9 @@
 //! Texts and byte strings as Python prints them.
-ghost use Rattle.std.specs.Prelude.{◌≡◌, ◌+◌, ◌-◌, ◌<◌, ◌≤◌, ◌==◌, [], ◌∷◌, ◌++◌, ◌↔◌, length, take, chars, string_bytes, string_len, encode_utf8_all, IsTrue, OnOk, SomeIff};
+ghost use Rattle.std.specs.Prelude.{◌≡◌, ◌-◌, ◌<◌, ◌≤◌, ◌==◌, ◌∷◌, ◌++◌, ◌↔◌, length, take, chars, string_bytes, encode_utf8_all, IsTrue, OnOk, SomeIff};
 ghost use Rattle.std.specs.Char.{digit_char};
-ghost use Rattle.std.specs.List.{flat_map, list_any};
-ghost use Rattle.py_strs.specs.Quoting.{AppendsWithin, bytes_repr, code_escape, escape, hex, is_hidden, is_hidden_byte, quote_of, text_repr};
-ghost use Rattle.py_strs.specs.QuotingForms.{byte_piece, piece, spelled};
+ghost use Rattle.std.specs.List.{list_any};
+ghost use Rattle.py_strs.specs.Quoting.{AppendsWithin, backslash, bytes_repr, code_escape, escape, hex, is_hidden, is_hidden_byte, quote_of, text_repr};
+ghost use Rattle.py_strs.specs.QuotingForms.{spelled};
 
 use crate::StrEnd;
 use std::alloc::AllocError;
@@ -23,7 +23,7 @@ pub fn repr_text(s: &str, most: u64, out: &mut String) -> Result<(), StrEnd>
     ensures { AppendsWithin most (text_repr s.now) (string_bytes out.old) (string_bytes out.new) result }
 {
     let quote = quote_for(s);
-    let Some(room) = room_between_quotes(most, out, 2) else {
+    let Some(room) = room_behind(out, most) else {
         return Err(StrEnd::Size);
     };
     if !text_fits(s, quote, room) {
@@ -47,7 +47,7 @@ pub fn repr_bytes(b: &[u8], most: u64, out: &mut String) -> Result<(), StrEnd>
     ensures { AppendsWithin most (bytes_repr b.now) (string_bytes out.old) (string_bytes out.new) result }
 {
     let quote = quote_for_bytes(b);
-    let Some(room) = room_between_quotes(most, out, 3) else {
+    let Some(room) = room_behind(out, most) else {
         return Err(StrEnd::Size);
     };
     if !bytes_fit(b, quote, room) {
@@ -89,18 +89,21 @@ fn quote_for_bytes(b: &[u8]) -> char
     }
 }
 
-/// How many bytes are left of `most`, behind `out` and so many bytes of quotes.
-fn room_between_quotes(most: u64, out: &String, quotes: u64) -> Option<u64>
-    ensures { SomeIff result (string_len out.now + quotes ≤ most) (most - string_len out.now - quotes) }
+/// How many bytes may come behind `out`, where it may hold `most`; none where it holds more already.
+fn room_behind(out: &String, most: u64) -> Option<u64>
+    ensures { SomeIff result (length (string_bytes out.now) ≤ most) (most - length (string_bytes out.now)) }
 {
-    most.checked_sub(out.len() as u64)?.checked_sub(quotes)
+    most.checked_sub(out.len() as u64)
 }
 
-/// Whether the escapes of the text's characters have at most `room` bytes.
+/// Whether the text's repr has at most `room` bytes.
 fn text_fits(s: &str, quote: char, room: u64) -> bool
-    ensures { IsTrue result ↔ (length (flat_map (piece quote) (chars s.now)) ≤ room) }
+    requires { quote ≡ quote_of (chars s.now) }
+    ensures { IsTrue result ↔ (length (text_repr s.now) ≤ room) }
 {
-    let mut left = room;
+    let Some(mut left) = room.checked_sub(2) else {
+        return false;
+    };
     for c in s.chars() {
         let Some(less) = left.checked_sub(Form::of_char(c, quote).len()) else {
             return false;
@@ -110,10 +113,14 @@ fn text_fits(s: &str, quote: char, room: u64) -> bool
     true
 }
 
+/// Whether the repr of these bytes has at most `room` bytes.
 fn bytes_fit(b: &[u8], quote: char, room: u64) -> bool
-    ensures { IsTrue result ↔ (length (flat_map (byte_piece quote) b.now) ≤ room) }
+    requires { quote ≡ quote_of b.now }
+    ensures { IsTrue result ↔ (length (bytes_repr b.now) ≤ room) }
 {
-    let mut left = room;
+    let Some(mut left) = room.checked_sub(3) else {
+        return false;
+    };
     for byte in b {
         let Some(less) = left.checked_sub(Form::of_byte(*byte, quote).len()) else {
             return false;
@@ -124,18 +131,21 @@ fn bytes_fit(b: &[u8], quote: char, room: u64) -> bool
 }
 
 fn push_text(s: &str, quote: char, out: &mut String) -> Result<(), AllocError>
-    ensures written { OnOk result (string_bytes out.new ≡ string_bytes out.old ++ encode_utf8_all (quote ∷ []) ++ flat_map (piece quote) (chars s.now) ++ encode_utf8_all (quote ∷ [])) }
+    requires { quote ≡ quote_of (chars s.now) }
+    ensures written { OnOk result (string_bytes out.new ≡ string_bytes out.old ++ text_repr s.now) }
     ensures kept { take (length (string_bytes out.old)) (string_bytes out.new) ≡ string_bytes out.old }
 {
     out.push(quote)?;
     for c in s.chars() {
         Form::of_char(c, quote).push(out)?;
     }
-    out.push(quote)
+    out.push(quote)?;
+    Ok(())
 }
 
 fn push_bytes(b: &[u8], quote: char, out: &mut String) -> Result<(), AllocError>
-    ensures written { OnOk result (string_bytes out.new ≡ string_bytes out.old ++ encode_utf8_all (0x62 ∷ quote ∷ []) ++ flat_map (byte_piece quote) b.now ++ encode_utf8_all (quote ∷ [])) }
+    requires { quote ≡ quote_of b.now }
+    ensures written { OnOk result (string_bytes out.new ≡ string_bytes out.old ++ bytes_repr b.now) }
     ensures kept { take (length (string_bytes out.old)) (string_bytes out.new) ≡ string_bytes out.old }
 {
     out.push('b')?;
@@ -143,7 +153,8 @@ fn push_bytes(b: &[u8], quote: char, out: &mut String) -> Result<(), AllocError>
     for byte in b {
         Form::of_byte(*byte, quote).push(out)?;
     }
-    out.push(quote)
+    out.push(quote)?;
+    Ok(())
 }
 
 /// How one character stands between the quotes.
@@ -191,9 +202,10 @@ impl Form {
         match self {
             Form::Plain(c) => c.len_utf8() as u64,
             Form::Short(c) => 1 + c.len_utf8() as u64,
-            Form::Code(0..0x100) => 4,
-            Form::Code(0x100..0x1_0000) => 6,
-            Form::Code(_) => 10,
+            Form::Code(code) => {
+                let (_, digits) = letter_and_digits(code);
+                2 + digits as u64
+            }
         }
     }
 
@@ -226,14 +238,22 @@ fn push_code(code: u32, out: &mut String) -> Result<(), AllocError>
     ensures written { OnOk result (string_bytes out.new ≡ string_bytes out.old ++ encode_utf8_all (code_escape code)) }
     ensures kept { take (length (string_bytes out.old)) (string_bytes out.new) ≡ string_bytes out.old }
 {
-    let (letter, digits) = match code {
-        0..0x100 => ('x', 2),
-        0x100..0x1_0000 => ('u', 4),
-        _ => ('U', 8),
-    };
+    let (letter, digits) = letter_and_digits(code);
     out.push('\\')?;
     out.push(letter)?;
     push_hex(digits, code, out)
+}
+
+/// The letter behind the backslash, and how many hex digits follow.
+fn letter_and_digits(code: u32) -> (char, u32)
+    ensures escape { code_escape code ≡ backslash ∷ result.0 ∷ hex result.1 code }
+    ensures ascii { result.0 < 128 }
+{
+    match code {
+        0..0x100 => ('x', 2),
+        0x100..0x1_0000 => ('u', 4),
+        _ => ('U', 8),
+    }
 }
 
 /// Appends the last so many hex digits of a number, in lower case.
@@ -245,7 +265,8 @@ fn push_hex(digits: u32, n: u32, out: &mut String) -> Result<(), AllocError>
         return Ok(());
     }
     push_hex(digits - 1, n / 16, out)?;
-    out.push(hex_digit(n % 16))
+    out.push(hex_digit(n % 16))?;
+    Ok(())
 }
 
 fn hex_digit(digit: u32) -> char

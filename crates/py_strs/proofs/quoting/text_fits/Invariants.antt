@@ -4,4 +4,4 @@ use Rattle.py_strs.specs.QuotingForms.{piece}
 use Rattle.py_strs.proofs.quoting.text_fits.Given as goal
 
 abbrev pub invariant-loop-c : goal.invariant-loop-c
-invariant-loop-c l = l.left + length (flat_map (piece l.quote) l.yielded) ≡ l.room
+invariant-loop-c l = l.left + (2 + length (flat_map (piece l.quote) l.yielded)) ≡ l.room
