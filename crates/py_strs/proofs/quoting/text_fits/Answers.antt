@@ -15,7 +15,7 @@ returns-in_default c =
 
 pub returns-in_default-checked_sub : goal.returns-in_default-checked_sub
 returns-in_default-checked_sub c =
-    let all = YieldsList-from_chars c.args.s.now c.utf8.s cc in
+    let all = YieldsList-from_chars {s = c.into_iter-c-iterator.result} c.args.s.now c.utf8.s cc in
     let t = YieldsList-turn all c.loop-c.yielded _ c.loop-c.yielded_by _ _ c.in-Some-c.c c.in-Some-c.is c.next.ensures.steps in
     let cs = chars c.args.s.now in
     let front : c.loop-c.yielded ≡ take (length c.loop-c.yielded) cs = so_far c.loop-c.yielded cs (YieldsList-so_far all c.loop-c.yielded _ c.loop-c.yielded_by) in
@@ -28,7 +28,7 @@ returns-in_default-checked_sub c =
 
 pub returns : goal.returns
 returns c =
-    let all = YieldsList-from_chars c.args.s.now c.utf8.s cc in
+    let all = YieldsList-from_chars {s = c.into_iter-c-iterator.result} c.args.s.now c.utf8.s cc in
     let t = YieldsList-end all c.loop-c.yielded _ c.loop-c.yielded_by _ _ c.in-None.is c.next.ensures.steps in
     let whole = length-text_repr c.args.s.now c.args.quote c.requires in
     let every : c.loop-c.yielded ≡ chars c.args.s.now = sym (map-id c.loop-c.yielded) ∙ t.0 in
