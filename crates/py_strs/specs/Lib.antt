@@ -1,0 +1,6 @@
+pub mod Joining
+pub mod Quoting
+pub mod QuotingForms
+pub mod Searching
+pub mod Spaces
+pub mod Splitting
