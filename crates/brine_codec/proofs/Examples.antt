@@ -1,5 +1,5 @@
 -- Worked examples, computed by the checker.
-use Rattle.std.proofs.Common.{List, ◌≡◌, [], ◌∷◌, true, false, pos, negsuc, refl, sym, ap, length, ◌^◌, ◌-◌, ℕ}
+use Rattle.std.proofs.Common.{List, ◌≡◌, [], ◌∷◌, true, false, pos, negsuc, refl, sym, ap, length, map, ◌^◌, ◌-◌, ℕ}
 use Rattle.std.specs.Prelude.{Ok, Err, Result}
 use Rattle.py_ints.specs.IntLaws.{written}
 use Rattle.rp_base.specs.declared.plain.Plain.{Plain}
@@ -160,3 +160,23 @@ two_levels = refl
 pub one_level : value_at 1 (0x12 ∷ 0x51 ∷ 0x50 ∷ 0x14 ∷ 0 ∷ []) ≡ Err (2, kinds.B8)
 unfolding brine_computing
 one_level = refl
+
+-- a text of an int is cut before its digits are judged
+pub cut_digits : decoded (0x16 ∷ 2 ∷ 0x30 ∷ []) ≡ fault_at 3 kinds.B3
+unfolding brine_computing
+cut_digits = refl
+
+pub cut_length : decoded (0x16 ∷ []) ≡ fault_at 1 kinds.B3
+unfolding brine_computing
+cut_length = refl
+
+pub short_count : decoded (0x15 ∷ 0 ∷ 0 ∷ 0 ∷ 255 ∷ []) ≡ fault_at 0 kinds.B4
+unfolding brine_computing
+short_count = refl
+
+pub other_tags :
+    map decoded ((0x07 ∷ []) ∷ (0x09 ∷ []) ∷ (0x1c ∷ []) ∷ (0x1f ∷ []) ∷ (0xf0 ∷ []) ∷ (0xff ∷ []) ∷ (0x19 ∷ []) ∷ (0x1a ∷ []) ∷ (0x1b ∷ []) ∷ [])
+    ≡ fault_at 0 kinds.B1 ∷ fault_at 0 kinds.B1 ∷ fault_at 0 kinds.B1 ∷ fault_at 0 kinds.B1 ∷ fault_at 0 kinds.B1 ∷ fault_at 0 kinds.B1
+    ∷ fault_at 0 (kinds.B2 0x19) ∷ fault_at 0 (kinds.B2 0x1a) ∷ fault_at 0 (kinds.B2 0x1b) ∷ []
+unfolding brine_computing
+other_tags = refl

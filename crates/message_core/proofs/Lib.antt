@@ -1,3 +1,4 @@
 pub mod ArgumentLaws
+pub mod ArgumentRows
 pub mod Examples
 pub mod ReadingLaws

@@ -75,21 +75,21 @@ pub enum PeerKind {
     V1,
     /// The label of a box is not 1 to 4.
     V2(i128),
-    /// A box of a reference without an identity.
+    /// A box of a reference whose content is no identity: a name of 1 to 255 bytes and two numbers from 0 to 2^64 - 1.
     V3,
     /// A value that is too heavy or too deep.
     V4,
-    /// An exception's content that is none.
+    /// An exception's content that is none, or whose arguments are too heavy or too deep.
     E1,
     /// Numbers that are kept under another name.
     P1,
     /// A reference to what was not exported.
     N1(IdPack),
-    /// A reply or exception of this number that nothing awaits.
+    /// A reply or exception of this number that answers no open request, or not the innermost one that is awaited.
     N2(u64),
     /// A reply that the handler of this number cannot have.
     N3(u8),
-    /// The stream ended while a reply was awaited.
+    /// The stream ended, or a close was read, while a reply was awaited.
     N4,
     /// A release of less than one.
     X2,

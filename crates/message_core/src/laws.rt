@@ -4,7 +4,7 @@ ghost use Rattle.message_core.specs.declared.message.Message.{Message};
 ghost use Rattle.message_core.specs.declared.faults.MsgFault.{MsgFault};
 ghost use Rattle.message_core.specs.Messages.{Finds, message_value, message_number};
 
-/// A value is one message, or none by one fault.
+/// A value is at most one message, or none by at most one fault: no two answers are found of it.
 pub fn values_are_one_message()
     ensures { (p : Plain) (r s : Result Message MsgFault) → Finds p r → Finds p s → r ≡ s }
 {}
