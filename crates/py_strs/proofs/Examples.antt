@@ -1,5 +1,5 @@
 -- Values from Python, computed.
-use Rattle.std.proofs.Common.{◌≡◌, ℕ, Bool, true, false, List, [], ◌∷◌, Some, None, pos, negsuc, refl}
+use Rattle.std.proofs.Common.{◌≡◌, true, false, [], ◌∷◌, Some, None, pos, negsuc, refl}
 use Rattle.py_strs.specs.Joining.{joined}
 use Rattle.py_strs.specs.Searching.{character_at}
 use Rattle.py_strs.specs.Spaces.{is_space}

@@ -1,8 +1,8 @@
 -- A text has one list of pieces.
-use Rattle.std.proofs.Common.{◌≡◌, ℕ, ◌<◌, List, [], ◌∷◌, ◌++◌, Some, None, length, take, drop, refl, sym, ap, subst, ◌∙◌, ⊎_elim}
+use Rattle.std.proofs.Common.{◌≡◌, ℕ, List, [], ◌∷◌, ◌++◌, Some, length, take, drop, sym, ap, subst, ◌∙◌, ⊎_elim}
 use Rattle.std.proofs.Math.Seq.{drop-append_seam, take-append_seam}
 use Rattle.std.proofs.lemmas.Bool.{cases_order}
-use Rattle.py_strs.specs.Searching.{StandsAt, IsLeastPlace}
+use Rattle.py_strs.specs.Searching.{IsLeastPlace}
 use Rattle.py_strs.specs.Splitting.{IsSplit}
 
 one_place : (text sep : List ℕ) (a b : ℕ) → IsLeastPlace text sep (Some a) → IsLeastPlace text sep (Some b) → a ≡ b
