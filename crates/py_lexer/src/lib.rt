@@ -2,6 +2,7 @@
 #![tactic(auto)]
 
 mod literal;
+mod piece;
 mod spelling;
 mod token;
 

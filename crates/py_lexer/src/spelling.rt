@@ -52,14 +52,16 @@ const KEYWORDS: [&[u8]; 35] = [
 /// The length of the longest sign in front, or 0.
 #[tactic(auto, unfolding(crate::specs::Spellings::sign_size))]
 pub(crate) fn sign_size(rest: &[u8]) -> usize
-    ensures { result ≡ sign_size rest.now }
+    ensures value { result ≡ sign_size rest.now }
+    ensures within { result ≤ length rest.now }
 {
     first_in_front(&SIGNS, rest)
 }
 
 /// The length of the first of the words that stands in front, or 0.
 fn first_in_front(words: &[&[u8]], rest: &[u8]) -> usize
-    ensures { result ≡ first_in_front (map (λ w. w.now) words.now) rest.now }
+    ensures value { result ≡ first_in_front (map (λ w. w.now) words.now) rest.now }
+    ensures within { result ≤ length rest.now }
 {
     for word in words {
         if rest.starts_with(word) {
@@ -170,7 +172,8 @@ pub(crate) fn comment_size(rest: &[u8]) -> usize
 
 /// The length of the line end in front, or 0.
 pub(crate) fn line_end_size(rest: &[u8]) -> usize
-    ensures { result ≡ line_end_size rest.now }
+    ensures value { result ≡ line_end_size rest.now }
+    ensures within { result ≤ length rest.now }
 {
     match rest {
         [b'\n', ..] => 1,
