@@ -1,3 +1,4 @@
+pub mod Layout
 pub mod Literals
 pub mod Pieces
 pub mod Spellings

@@ -1,8 +1,10 @@
 //! Python's tokens: a script's text taken apart into names, numbers, literals, signs, line ends and indentations.
 #![tactic(auto)]
 
+mod indents;
 mod literal;
 mod piece;
+mod reader;
 mod spelling;
 mod token;
 

@@ -1,4 +1,4 @@
-use Rattle.std.proofs.Common.{◌≡◌, ◌∙◌, ap, sym, refl, arith, ◌+◌, option_map, Some}
+use Rattle.std.proofs.Common.{◌∙◌, ap, sym, arith, ◌+◌, option_map}
 use Rattle.py_lexer.proofs.LiteralLaws.{quote_at, bad_at, item_at, end_at}
 use Rattle.py_lexer.proofs.literal.literal_size.Goals as goal
 

@@ -1,5 +1,4 @@
-use Rattle.std.proofs.Common.{◌≡◌, ◌∙◌, ap, sym, arith, ◌+◌}
-use Rattle.py_lexer.specs.Spellings.{comment_size}
+use Rattle.std.proofs.Common.{◌∙◌, sym, arith}
 use Rattle.py_lexer.proofs.SizeLaws.{comment_step}
 use Rattle.py_lexer.proofs.spelling.comment_size.Goals as goal
 
