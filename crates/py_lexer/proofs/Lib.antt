@@ -1,2 +1,6 @@
+pub mod LayoutLaws
 pub mod LiteralLaws
+pub mod MoveLaws
+pub mod PieceLaws
+pub mod ReadingLaws
 pub mod SizeLaws

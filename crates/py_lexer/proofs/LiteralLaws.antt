@@ -62,7 +62,7 @@ further : (at n : ℕ) (x : Option ℕ) → option_map (λ k. at + k) (option_ma
 further at n None = refl
 further at n (Some k) = let e : at + (n + k) ≡ at + n + k = omega arith in ap (λ (m : ℕ). Some m) e
 
-behind : (at n : ℕ) (rest : List ℕ) → drop n (drop (suc at) rest) ≡ drop (at + suc n) rest
+pub behind : (at n : ℕ) (rest : List ℕ) → drop n (drop (suc at) rest) ≡ drop (at + suc n) rest
 behind zero n [] = grind (arith, common_steps)
 behind (suc at) n [] = grind (arith, common_steps)
 behind zero n (c ∷ cs) = let e : 0 + suc n ≡ suc n = omega arith in ap (λ (k : ℕ). drop k (c ∷ cs)) (sym e)

@@ -7,7 +7,7 @@ use Rattle.std.proofs.Math.Nat.{pow-suc, mul_assoc}
 use Rattle.std.proofs.Math.Seq.{drop-cons}
 
 -- one byte of a comment
-step_in : (c : ℕ) (cs : List ℕ) → line_end_size (c ∷ cs) ≡ 0 → comment_size (c ∷ cs) ≡ 1 + comment_size cs
+pub step_in : (c : ℕ) (cs : List ℕ) → line_end_size (c ∷ cs) ≡ 0 → comment_size (c ∷ cs) ≡ 1 + comment_size cs
 unfolding comment_size
 step_in c cs e = ap (λ n. if n == 0 then 1 + comment_size cs else 0) e
 

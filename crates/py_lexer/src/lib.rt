@@ -2,10 +2,12 @@
 #![tactic(auto)]
 
 mod indents;
+mod lexing;
 mod literal;
 mod piece;
 mod reader;
 mod spelling;
 mod token;
 
+pub use lexing::tokens;
 pub use token::{LexEnd, Token, TokenKind};

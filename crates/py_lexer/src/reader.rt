@@ -86,10 +86,10 @@ impl Reader {
         }
     }
 
-    /// The tokens of a text that ends here.
+    /// Adds the tokens of a text that ends here.
     #[tactic(auto, unfolding(crate::specs::Layout::finished))]
-    pub(crate) fn finish(mut self) -> Result<Vec<Token>, LexEnd>
-        ensures ok { IfOk result (λ tokens. tokens.items ≡ finished (place_of self)) }
+    pub(crate) fn finish(&mut self) -> Result<(), LexEnd>
+        ensures ok { OnOk result (self.new.tokens.items ≡ finished (place_of self.old)) }
         ensures only_memory { IfErr result (λ e. e ≡ LexEnd.NoMemory) }
     {
         let line = self.last_line();
@@ -97,7 +97,7 @@ impl Reader {
             self.add(TokenKind::Newline, self.at, line)?;
         }
         self.close_to(0, line)?;
-        Ok(self.tokens)
+        Ok(())
     }
 
     /// Goes on behind so many bytes, which end within the longest text.

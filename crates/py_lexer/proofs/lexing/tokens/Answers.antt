@@ -1,0 +1,27 @@
+use Rattle.std.proofs.Common.{◌≡◌, ◌∙◌, sym, ap, arith, List, Ok}
+use Rattle.py_lexer.specs.declared.token.Token.{Token}
+use Rattle.py_lexer.specs.Reading.{tokens_of}
+use Rattle.py_lexer.specs.Layout.{place_of}
+use Rattle.py_lexer.proofs.ReadingLaws.{piece_step, read_stop, read_end}
+use Rattle.py_lexer.proofs.lexing.tokens.Goals as goal
+
+pub pieces-smaller : goal.pieces-smaller
+pieces-smaller c =
+    let inv = c.pieces.invariant in
+    let step = piece_step (place_of c.pieces.reader) (place_of c.take.new.self) c.as_bytes-bytes.result.now c.piece_at-piece.result c.pieces-test.true c.piece_at-piece.ensures.value c.piece_at-piece.ensures.within c.in_ok-take.ensures inv.3 inv.4 in
+    omega (arith, step.5, step.1)
+
+pub pieces-preserved : goal.pieces-preserved
+pieces-preserved c =
+    let inv = c.pieces.invariant in
+    let step = piece_step (place_of c.pieces.reader) (place_of c.take.new.self) c.as_bytes-bytes.result.now c.piece_at-piece.result c.pieces-test.true c.piece_at-piece.ensures.value c.piece_at-piece.ensures.within c.in_ok-take.ensures inv.3 inv.4 in
+    (inv.0 ∙ step.0, step.1, step.2, step.3, step.4)
+
+pub returns-in_err-take : goal.returns-in_err-take
+returns-in_err-take c = let a = c.from_residual.ensures in let b = c.in_err-take.ensures in ?
+
+pub returns : goal.returns
+returns c =
+    let same : c.args.text.now ≡ c.as_bytes-bytes.result.now = sym c.as_bytes-bytes.ensures.value in
+    ap tokens_of same ∙ c.pieces.invariant.0 ∙ read_end (place_of c.pieces.reader) c.pieces.reader.at c.as_bytes-bytes.result.now c.pieces-test.false
+    ∙ ap (λ (ts : List Token). Ok ts) (sym c.in_ok-finish.ensures.ok)
