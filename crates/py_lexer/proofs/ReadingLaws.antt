@@ -1,6 +1,7 @@
 -- Reading on, a piece at a time.
 use Rattle.std.proofs.Common.{◌≡◌, ◌∙◌, ◌<◌, ◌≤◌, ◌+◌, ◌-◌, ℕ, zero, suc, List, [], ◌∷◌, length, take, drop, slice_index_or, Result, Ok, Err, refl, sym, ap, subst, arith}
 use Rattle.std.proofs.lemmas.Grind.{common_steps}
+use Rattle.std.specs.Result.{IsErrAnd}
 use Rattle.rp_base.specs.declared.rules.Refused.{Refused}
 use Rattle.py_lexer.specs.declared.token.Token.{Token}
 use Rattle.py_lexer.specs.declared.token.LexEnd.{LexEnd}
@@ -86,5 +87,6 @@ pub from_here : (p : Place) (text : List ℕ) (e : LexEnd) → tokens_of text �
 from_here p text (ends.Refused stop) is s = is ∙ s
 from_here p text ends.NoMemory is s = tt
 
-pub answers_stop : {X : Type 0} (view : X → List Token) (result : Result X LexEnd) (e : LexEnd) (read : Result (List Token) Refused) → result ≡ Err e → Stops e read → Answers view result read
-answers_stop {X} view result e read is s = let P : Result X LexEnd → Type 0 = λ r. Answers view r read in subst P (sym is) s
+pub answers_stop : {X : Type 0} (view : X → List Token) (result : Result X LexEnd) (e : LexEnd) (read : Result (List Token) Refused) → IsErrAnd result (λ y. y ≡ e) → Stops e read → Answers view result read
+answers_stop view (Ok found) e read is s = absurd is
+answers_stop view (Err y) e read is s = subst (λ (z : LexEnd). Stops z read) (sym is) s

@@ -7,6 +7,8 @@ mod literal;
 mod piece;
 mod reader;
 mod spelling;
+#[cfg(test)]
+mod tests;
 mod token;
 
 pub use lexing::tokens;

@@ -1,8 +1,8 @@
-use Rattle.std.proofs.Common.{◌≡◌, ◌∙◌, sym, ap, arith, List, Ok}
+use Rattle.std.proofs.Common.{◌≡◌, ◌∙◌, sym, ap, subst, arith, ℕ, List, drop, Ok}
 use Rattle.py_lexer.specs.declared.token.Token.{Token}
-use Rattle.py_lexer.specs.Reading.{tokens_of}
-use Rattle.py_lexer.specs.Layout.{place_of}
-use Rattle.py_lexer.proofs.ReadingLaws.{piece_step, read_stop, read_end}
+use Rattle.py_lexer.specs.Reading.{tokens_of, read_on}
+use Rattle.py_lexer.specs.Layout.{place_of, Stops}
+use Rattle.py_lexer.proofs.ReadingLaws.{piece_step, stopped, from_here, answers_stop, read_end}
 use Rattle.py_lexer.proofs.lexing.tokens.Goals as goal
 
 pub pieces-smaller : goal.pieces-smaller
@@ -18,7 +18,12 @@ pieces-preserved c =
     (inv.0 ∙ step.0, step.1, step.2, step.3, step.4)
 
 pub returns-in_err-take : goal.returns-in_err-take
-returns-in_err-take c = let a = c.from_residual.ensures in let b = c.in_err-take.ensures in ?
+returns-in_err-take c =
+    let same : c.args.text.now ≡ c.as_bytes-bytes.result.now = sym c.as_bytes-bytes.ensures.value in
+    let here = stopped (place_of c.pieces.reader) c.as_bytes-bytes.result.now c.piece_at-piece.result c.in_err-take.field-0.0 c.pieces-test.true c.piece_at-piece.ensures.value c.in_err-take.ensures in
+    let whole = from_here (place_of c.pieces.reader) c.args.text.now c.in_err-take.field-0.0 (ap tokens_of same ∙ c.pieces.invariant.0 ∙ ap (λ (t : List ℕ). read_on (place_of c.pieces.reader) 0 (drop c.pieces.reader.at t)) (sym same))
+    (subst (λ (t : List ℕ). Stops c.in_err-take.field-0.0 (read_on (place_of c.pieces.reader) 0 (drop c.pieces.reader.at t))) (sym same) here) in
+    answers_stop (λ found. found.items) c.from_residual.result c.in_err-take.field-0.0 (tokens_of c.args.text.now) c.from_residual.ensures.1 whole
 
 pub returns : goal.returns
 returns c =
