@@ -1,6 +1,5 @@
 -- Closing indentations, one at a time.
-use Rattle.std.proofs.Common.{◌≡◌, ◌<◌, ◌≤◌, ◌+◌, ℕ, List, [], ◌∷◌, ◌++◌, length, true, false, nat_lt, refl, sym, ◌∙◌, ap, arith}
-use Rattle.std.specs.Prelude.{if◌then◌else◌}
+use Rattle.std.proofs.Common.{◌≡◌, ◌<◌, ◌≤◌, ℕ, List, [], ◌∷◌, ◌++◌, length, true, false, nat_lt, refl, sym, ◌∙◌, ap, arith}
 use Rattle.py_lexer.specs.declared.token.Token.{Token}
 use Rattle.py_lexer.specs.declared.token.TokenKind.TheVariants as tokens
 use Rattle.py_lexer.specs.Layout.{Place, left_open, top, below, closed, with_open, with_token, token_at}

@@ -1,8 +1,6 @@
 -- Reading a literal, an item at a time.
 use Rattle.std.proofs.Common.{◌≡◌, ◌≢◌, ◌<◌, ◌≤◌, ◌+◌, ◌-◌, take, drop, slice_index_or, ℕ, zero, suc, List, [], ◌∷◌, length, Bool, true, false, Option, Some, None, option_map, refl, sym, ap, ◌∙◌, arith, ◌==◌}
-use Rattle.std.specs.Prelude.{if◌then◌else◌}
 use Rattle.std.proofs.lemmas.Grind.{common_steps}
-use Rattle.std.proofs.lemmas.Bool.{eqb-true, ne_eqb}
 use Rattle.py_lexer.specs.Literals.{literal_size, item_size, on_item}
 
 pub place : (rest : List ℕ) (at : ℕ) → at < length rest → drop at rest ≡ slice_index_or rest at 0 ∷ drop (suc at) rest

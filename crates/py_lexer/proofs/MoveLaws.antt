@@ -1,5 +1,5 @@
 -- How far a piece goes.
-use Rattle.std.proofs.Common.{◌≡◌, ◌∙◌, ◌<◌, ◌≤◌, ◌+◌, ◌-◌, ℕ, zero, suc, List, [], ◌∷◌, Bool, true, false, nat_lt, ◌==◌, Option, Some, None, Ok, Err, refl, sym, ap, subst, arith}
+use Rattle.std.proofs.Common.{◌≡◌, ◌∙◌, ◌≤◌, ◌+◌, ◌-◌, ℕ, Bool, true, false, nat_lt, ◌==◌, Some, None, Ok, Err, refl, ap, subst, arith}
 use Rattle.std.specs.Prelude.{if◌then◌else◌}
 use Rattle.py_lexer.specs.declared.token.TokenKind.{TokenKind}
 use Rattle.py_lexer.specs.declared.token.TokenKind.TheVariants as tokens
@@ -9,14 +9,14 @@ use Rattle.py_lexer.specs.declared.piece.Piece.{Piece}
 use Rattle.py_lexer.specs.declared.reader.Margin.{Margin}
 use Rattle.py_lexer.specs.declared.reader.Margin.TheVariants as margins
 use Rattle.rp_base.specs.declared.rules.Rule.TheVariants as rules
-use Rattle.py_lexer.specs.Layout.{refusal, Place, Next, ◌>>=◌, longest_text, stop_of, passed_to, passed, emitted, ended, next_line, with_newline, is_open_line, with_token, token_at, tabbed, indented, matched, closed, deeper, top, settled_by, settled, taken_by, taken}
+use Rattle.py_lexer.specs.Layout.{refusal, Place, Next, ◌>>=◌, longest_text, passed_to, passed, emitted, ended, next_line, with_newline, is_open_line, with_token, token_at, indented, matched, closed, deeper, top, settled_by, settled, taken_by, taken}
 
 -- said of where it goes on
-abbrev Goes : (Place → Type 0) → Next → Type 0
+abbrev pub Goes : (Place → Type 0) → Next → Type 0
 Goes P (Ok q) = P q
 Goes P (Err e) = Unit {0}
 
-abbrev Stays : Place → Place → Type 0
+abbrev pub Stays : Place → Place → Type 0
 Stays p q = (q.at ≡ p.at) × (q.line ≡ p.line) × (q.brackets ≡ p.brackets)
 
 abbrev Passes : ℕ → Place → Place → Type 0
@@ -25,7 +25,7 @@ Passes n p q = (q.at ≡ p.at + n) × (q.at ≤ longest_text) × (q.line ≡ p.l
 abbrev pub Moves : ℕ → Place → Place → Type 0
 Moves n p q = (q.at ≡ p.at + n) × (q.at ≤ longest_text) × (q.line ≤ p.line + 1) × (q.brackets ≤ p.brackets + 1)
 
-goes_on : (P Q : Place → Type 0) (x : Next) (f : Place → Next) → Goes P x → ((q : Place) → P q → Goes Q (f q)) → Goes Q (x >>= f)
+pub goes_on : (P Q : Place → Type 0) (x : Next) (f : Place → Next) → Goes P x → ((q : Place) → P q → Goes Q (f q)) → Goes Q (x >>= f)
 goes_on P Q (Ok q) f h k = k q h
 goes_on P Q (Err e) f h k = tt
 
@@ -44,7 +44,7 @@ emitted_passes : (k : TokenKind) (n : ℕ) (p : Place) → Goes (Passes n p) (em
 unfolding emitted
 emitted_passes k n p = goes_on (Passes n p) (Passes n p) (passed n p) _ (passed_passes n p) (λ q h. h)
 
-newline_stays : (from l : ℕ) (p : Place) → Stays p (with_newline from l p)
+pub newline_stays : (from l : ℕ) (p : Place) → Stays p (with_newline from l p)
 newline_stays from l p = by_test (is_open_line p)
   where
     by_test : (b : Bool) → Stays p (if b then with_token (token_at tokens.Newline from p.at l) p else p)

@@ -1,5 +1,5 @@
 -- A piece takes a byte or more.
-use Rattle.std.proofs.Common.{◌≡◌, ◌<◌, ◌+◌, ℕ, zero, suc, List, [], ◌∷◌, take, drop, codes, Bool, true, false, nat_lt, ◌==◌, ◌&&◌, ◌||◌, Option, Some, None, option_map, refl, sym, ap, subst, arith}
+use Rattle.std.proofs.Common.{◌≡◌, ◌<◌, ◌+◌, ℕ, List, [], ◌∷◌, take, drop, codes, Bool, true, false, nat_lt, ◌==◌, ◌&&◌, ◌||◌, Option, Some, None, option_map, refl, subst, arith}
 use Rattle.std.specs.Prelude.{if◌then◌else◌}
 use Rattle.py_lexer.specs.declared.token.TokenKind.{TokenKind}
 use Rattle.py_lexer.specs.declared.token.TokenKind.TheVariants as tokens
@@ -7,8 +7,8 @@ use Rattle.rp_base.specs.declared.rules.Rule.TheVariants as rules
 use Rattle.py_lexer.specs.declared.piece.PieceKind.TheVariants as kinds
 use Rattle.py_lexer.specs.declared.piece.Piece.{Piece}
 use Rattle.py_lexer.specs.Literals.{literal_size}
-use Rattle.py_lexer.specs.Spellings.{comment_size, line_end_size, front_size, is_name_byte, is_number_byte, is_name_start, is_digit, name_size, number_size, sign_size, is_int, is_keyword, is_prefix, is_quote, is_of}
-use Rattle.py_lexer.specs.Pieces.{sized, piece, token, refused, literal_piece, is_twice, text_piece, bytes_piece, number_piece, word_piece, word_of, mark_piece, sign_of, piece_of, starts, longest_name}
+use Rattle.py_lexer.specs.Spellings.{comment_size, line_end_size, front_size, is_name_byte, is_number_byte, is_name_start, is_digit, name_size, sign_size, is_keyword, is_prefix, is_quote, is_of}
+use Rattle.py_lexer.specs.Pieces.{sized, piece, token, refused, literal_piece, is_twice, text_piece, bytes_piece, number_piece, word_piece, mark_piece, sign_of, piece_of, starts, longest_name}
 use Rattle.py_lexer.proofs.SizeLaws.{step_in}
 
 abbrev IsSome : Piece → Type 0
@@ -91,17 +91,17 @@ mark_some text = either _ _ _ (λ h. let some : 0 < line_end_size text = grind a
 
 piece_cases : (a b d e f g h i j k : Bool) (n : ℕ) (t y u w m : Piece) → (d ≡ true → 0 < n) → IsSome t → IsSome y → (j ≡ true → IsSome u) → (k ≡ true → IsSome w) → IsSome m
     → IsSome
-        (if a then piece kinds.Space 1
-        else if b then piece kinds.Tab 1
-        else if d then piece kinds.Comment n
-        else if e then piece kinds.Opener 1
-        else if f then piece kinds.Closer 1
-        else if g then t
-        else if h then y
-        else if i then refused rules.L4
-        else if j then u
-        else if k then w
-        else m)
+    (if a then piece kinds.Space 1
+    else if b then piece kinds.Tab 1
+    else if d then piece kinds.Comment n
+    else if e then piece kinds.Opener 1
+    else if f then piece kinds.Closer 1
+    else if g then t
+    else if h then y
+    else if i then refused rules.L4
+    else if j then u
+    else if k then w
+    else m)
 piece_cases true b d e f g h i j k n t y u w m p q r s v z = one
 piece_cases false true d e f g h i j k n t y u w m p q r s v z = one
 piece_cases false false true e f g h i j k n t y u w m p q r s v z = p refl

@@ -68,8 +68,7 @@ piece_step p q text x h is fits e lines brackets =
     let some : 0 < (piece_of (take (length text - p.at) (drop p.at text))).size = some_piece p.at text h in
     let same : x.size ≡ (piece_of (take (length text - p.at) (drop p.at text))).size = ap (λ (y : Piece). y.size) is in
     let long : length (take (length text - p.at) (drop p.at text)) ≡ length text - p.at = grind (arith, common_steps) in
-    let goal_at : p.at + (piece_of (take (length text - p.at) (drop p.at text))).size ≡ q.at = omega (arith, same, moves.0) in
-    (
+    let goal_at : p.at + (piece_of (take (length text - p.at) (drop p.at text))).size ≡ q.at = omega (arith, same, moves.0) in (
       read_piece p q p.at text h (ap (λ (y : Piece). taken y p) (sym is) ∙ e) ∙ ap (λ (k : ℕ). read_on q 0 (drop k text)) goal_at,
       omega (arith, moves.0, fits, long, h),
       moves.1,

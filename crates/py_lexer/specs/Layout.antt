@@ -1,5 +1,5 @@
 -- Lines, indentations and brackets: what a piece of the text does to a place in it.
-use Rattle.std.specs.Prelude.{◌≡◌, ℕ, zero, suc, ◌+◌, ◌-◌, Bool, true, false, ◌==◌, ◌&&◌, nat_lt, List, [], ◌∷◌, ◌++◌, Option, Some, None, Result, Ok, Err, if◌then◌else◌}
+use Rattle.std.specs.Prelude.{◌≡◌, ℕ, ◌+◌, ◌-◌, Bool, true, false, ◌==◌, ◌&&◌, nat_lt, List, [], ◌∷◌, ◌++◌, Option, Some, None, Result, Ok, Err, if◌then◌else◌}
 use Rattle.rp_base.specs.declared.rules.Rule.{Rule}
 use Rattle.rp_base.specs.declared.rules.Rule.TheVariants as rules
 use Rattle.rp_base.specs.declared.rules.Refused.{Refused}

@@ -1,5 +1,6 @@
 pub mod Layout
 pub mod Literals
+pub mod Order
 pub mod Pieces
 pub mod Reading
 pub mod Spellings

@@ -1,6 +1,6 @@
 -- How texts and byte strings are spelled: items up to the closing quote, on one line.
 use Rattle.std.specs.Int.{is_in_range}
-use Rattle.std.specs.Prelude.{ℕ, zero, suc, ◌+◌, ◌-◌, Bool, true, false, ◌==◌, ◌&&◌, ◌||◌, not, nat_lt, List, [], ◌∷◌, codes, Option, Some, None, option_map, if◌then◌else◌}
+use Rattle.std.specs.Prelude.{ℕ, zero, suc, ◌+◌, ◌-◌, Bool, ◌==◌, ◌&&◌, not, nat_lt, List, [], ◌∷◌, codes, Option, Some, None, option_map, if◌then◌else◌}
 use Rattle.py_lexer.specs.Spellings.{is_of, is_some, hex_digit, line_end_size}
 
 abbrev pub is_hex : ℕ → Bool

@@ -1,4 +1,5 @@
-ghost use Rattle.std.specs.Prelude.{◌≡◌};
+ghost use Rattle.std.specs.Prelude.{IfOk, length};
+ghost use Rattle.py_lexer.specs.Order.{InOrder};
 ghost use Rattle.py_lexer.specs.Reading.{Answers, tokens_of};
 
 use crate::piece::piece_at;
@@ -7,9 +8,10 @@ use crate::token::{LexEnd, Token};
 use std::alloc::Global;
 
 /// The tokens of a script's text, or the first rule that it breaks. A text has at most 1,048,576 bytes. Time is linear
-/// in the text.
+/// in the text. Their slices stand in order, and none over another.
 pub fn tokens(alloc: Global, text: &str) -> Result<Vec<Token>, LexEnd>
-    ensures { Answers (λ found. found.items) result (tokens_of text.now) }
+    ensures read { Answers (λ found. found.items) result (tokens_of text.now) }
+    ensures ordered { IfOk result (λ found. InOrder 0 found.items (length text.now)) }
 {
     let bytes = text.as_bytes();
     let mut reader = Reader::new(alloc);

@@ -1,4 +1,4 @@
-use Rattle.std.proofs.Common.{◌≡◌, ◌≤◌, ◌<◌, ◌∙◌, sym, arith}
+use Rattle.std.proofs.Common.{◌≤◌, ◌<◌, ◌∙◌, sym, arith}
 use Rattle.py_lexer.specs.Layout.{place_of, top}
 use Rattle.py_lexer.proofs.LayoutLaws.{close_one, close_none}
 use Rattle.py_lexer.proofs.reader.Reader.close_to.Goals as goal
