@@ -1,3 +1,4 @@
+pub mod Examples
 pub mod LayoutLaws
 pub mod LiteralLaws
 pub mod MoveLaws

@@ -1,3 +1,4 @@
+pub mod Computing
 pub mod Layout
 pub mod Literals
 pub mod Order
