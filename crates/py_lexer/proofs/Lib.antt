@@ -5,4 +5,5 @@ pub mod MoveLaws
 pub mod OrderLaws
 pub mod PieceLaws
 pub mod ReadingLaws
+pub mod SignLaws
 pub mod SizeLaws

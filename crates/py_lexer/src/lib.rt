@@ -2,6 +2,7 @@
 #![tactic(auto)]
 
 mod indents;
+mod laws;
 mod lexing;
 mod literal;
 mod piece;
@@ -11,5 +12,6 @@ mod spelling;
 mod tests;
 mod token;
 
+pub use laws::the_longest_sign_is_read;
 pub use lexing::tokens;
 pub use token::{LexEnd, Token, TokenKind};
