@@ -1,0 +1,9 @@
+pub mod Examples
+pub mod LayoutLaws
+pub mod LiteralLaws
+pub mod MoveLaws
+pub mod OrderLaws
+pub mod PieceLaws
+pub mod ReadingLaws
+pub mod SignLaws
+pub mod SizeLaws

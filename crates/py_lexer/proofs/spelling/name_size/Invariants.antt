@@ -1,0 +1,6 @@
+use Rattle.std.proofs.Common.{◌≡◌, ◌+◌, drop}
+use Rattle.py_lexer.specs.Spellings.{front_size, is_name_byte}
+use Rattle.py_lexer.proofs.spelling.name_size.Given as goal
+
+abbrev pub invariant-loop-byte : goal.invariant-loop-byte
+invariant-loop-byte l = (l.size ≡ l.byte-index) × (front_size is_name_byte l.rest ≡ l.byte-index + front_size is_name_byte (drop l.byte-index l.rest))

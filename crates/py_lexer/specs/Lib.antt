@@ -1,0 +1,7 @@
+pub mod Computing
+pub mod Layout
+pub mod Literals
+pub mod Order
+pub mod Pieces
+pub mod Reading
+pub mod Spellings
