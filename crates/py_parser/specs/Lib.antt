@@ -1,0 +1,4 @@
+pub mod Building
+pub mod BuildingLists
+pub mod BuildingParts
+pub mod BuildingSigns

@@ -1,0 +1,135 @@
+ghost use Rattle.std.specs.Prelude.{◌≡◌, length, IfOk};
+ghost use Rattle.py_parser.specs.Building.{begun, stuck, taken_in, with_node, with_tree, with_suite, place_tree, statement_tree, value_tree};
+
+
+mod gathering;
+mod signs;
+
+use crate::parts::{Form, Functions, Gathering, Sign, Stack, Tree, Word};
+use py_ast::{Expression, Link, Name, Node, Statement};
+use rp_base::{BinaryOp, NoMemory, UnaryOp};
+use sqlite_items::Items;
+use std::alloc::Global;
+
+/// What is built while a text is read: the nodes so far, and one stack for each kind of part that waits to be used.
+#[derive(Drop)]
+pub(crate) struct Building<'a> {
+    pub(crate) nodes: Items<Node>,
+    pub(crate) lines: Items<u32>,
+    pub(crate) functions: Functions,
+    /// The innermost function that has begun and not ended.
+    pub(crate) function: Option<u32>,
+    pub(crate) trees: Stack<Tree>,
+    pub(crate) lists: Stack<Gathering>,
+    pub(crate) names: Stack<Option<Name>>,
+    pub(crate) name_lists: Stack<Items<Name>>,
+    pub(crate) suites: Stack<Option<u32>>,
+    /// Lines on which something has begun.
+    pub(crate) marks: Stack<u32>,
+    pub(crate) signs: Stack<BinaryOp>,
+    pub(crate) unary_signs: Stack<UnaryOp>,
+    pub(crate) comparisons: Stack<Sign>,
+    pub(crate) links: Stack<Items<Link>>,
+    /// The token that was taken last, and its line.
+    pub(crate) word: Word<'a>,
+    pub(crate) line: u32,
+}
+
+impl<'a> Building<'a> {
+    pub(crate) fn new(alloc: Global) -> Building<'a>
+        ensures { result ≡ begun }
+    {
+        Building {
+            nodes: Items::new(alloc),
+            lines: Items::new(alloc),
+            functions: Functions::new(alloc),
+            function: None,
+            trees: Stack::new(alloc),
+            lists: Stack::new(alloc),
+            names: Stack::new(alloc),
+            name_lists: Stack::new(alloc),
+            suites: Stack::new(alloc),
+            marks: Stack::new(alloc),
+            signs: Stack::new(alloc),
+            unary_signs: Stack::new(alloc),
+            comparisons: Stack::new(alloc),
+            links: Stack::new(alloc),
+            word: Word::new(""),
+            line: 1,
+        }
+    }
+
+    /// Takes a token's text and its line.
+    pub(crate) fn take_in(&mut self, word: &'a str, line: u32)
+        ensures { self.new ≡ taken_in word.now line self.old }
+    {
+        self.word = Word::new(word);
+        self.line = line;
+    }
+
+    /// Where the parts that an act asks for are not there.
+    fn stop(&mut self) -> Result<(), NoMemory>
+        ensures { IfOk result (λ _. self.new ≡ stuck self.old) }
+    {
+        self.trees.clear();
+        self.lists.clear();
+        self.names.clear();
+        self.name_lists.clear();
+        self.suites.clear();
+        self.marks.clear();
+        self.signs.clear();
+        self.unary_signs.clear();
+        self.comparisons.clear();
+        self.links.clear();
+        Ok(())
+    }
+
+    /// Adds a node, and answers its number.
+    fn push_node(&mut self, node: Node, line: u32) -> Result<u32, NoMemory>
+        ensures { IfOk result (λ number. (number ≡ length self.old.nodes) × (self.new ≡ with_node node line self.old)) }
+    {
+        let Ok(number) = u32::try_from(self.nodes.len()) else {
+            return Err(NoMemory);
+        };
+        self.nodes.push(node)?;
+        self.lines.push(line)?;
+        Ok(number)
+    }
+
+    /// Adds a node that is a tree with this line of its first token.
+    fn push_tree(&mut self, node: Node, line: u32, first_line: u32, form: Form) -> Result<(), NoMemory>
+        ensures { IfOk result (λ _. self.new ≡ with_tree node line first_line form self.old) }
+    {
+        let number = self.push_node(node, line)?;
+        self.trees.push(Tree {
+            number,
+            line: first_line,
+            form,
+        })
+    }
+
+    fn push_suite(&mut self, statement: Statement, line: u32) -> Result<(), NoMemory>
+        ensures { IfOk result (λ _. self.new ≡ with_suite statement line self.old) }
+    {
+        let number = self.push_node(Node::Statement(statement), line)?;
+        self.suites.push(Some(number))
+    }
+
+    fn push_value(&mut self, expression: Expression, line: u32) -> Result<(), NoMemory>
+        ensures { IfOk result (λ _. self.new ≡ value_tree expression line self.old) }
+    {
+        self.push_tree(Node::Expression(expression), line, line, Form::Value)
+    }
+
+    fn push_place(&mut self, expression: Expression, line: u32, first_line: u32) -> Result<(), NoMemory>
+        ensures { IfOk result (λ _. self.new ≡ place_tree expression line first_line self.old) }
+    {
+        self.push_tree(Node::Expression(expression), line, first_line, Form::Place)
+    }
+
+    fn push_statement(&mut self, statement: Statement, line: u32) -> Result<(), NoMemory>
+        ensures { IfOk result (λ _. self.new ≡ statement_tree statement line self.old) }
+    {
+        self.push_tree(Node::Statement(statement), line, line, Form::Value)
+    }
+}
