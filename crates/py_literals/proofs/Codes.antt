@@ -1,5 +1,6 @@
 -- Four hex digits as two bytes, and which of them are no surrogate.
-use Rattle.std.proofs.Common.{◌≡◌, ◌∙◌, ◌<◌, ◌≤◌, inl, inr, ◌+◌, ◌*◌, ℕ, List, [], ◌∷◌, codes, Bool, true, false, nat_lt, not, ◌==◌, ◌&&◌, Option, Some, None, refl, sym, ap, arith}
+use Rattle.std.proofs.Math.Utf8.{low_scalar}
+use Rattle.std.proofs.Common.{◌≡◌, ◌∙◌, ◌<◌, ◌≤◌, ◌⊎◌, inl, inr, subst, ◌+◌, ◌*◌, ℕ, List, [], ◌∷◌, codes, Bool, true, false, nat_lt, not, ◌==◌, ◌&&◌, Option, Some, None, refl, sym, ap, arith}
 use Rattle.std.specs.Prelude.{if◌then◌else◌}
 use Rattle.std.specs.Int.{is_in_range}
 use Rattle.std.specs.Char.{IsScalar, InScalarRange, OutOfScalarRange}
@@ -111,3 +112,48 @@ code_is a b c d h l None p q value cases =
     let low : l < 256 = omega (arith, z, w, q.value) in
     let half : is_surrogate a b ≡ true = same_test a b p.first p.second ∙ surrogate (count_in (hex_digit a)) (count_in (hex_digit b)) h l x y low p.value cases in
     sym (code_by a b c d (hex_natural (a ∷ b ∷ c ∷ d ∷ [])) true p.first p.second q.first q.second half)
+
+-- ---- the code of four digits that are no surrogate
+
+pub record IsPlainCode (a b c d : ℕ) : Type 0 where
+  pub first : is_hex a ≡ true
+  pub second : is_hex b ≡ true
+  pub third : is_hex c ≡ true
+  pub fourth : is_hex d ≡ true
+  pub plain : is_surrogate a b ≡ false
+
+pub plain_code : (a b c d : ℕ) → is_code a b c d ≡ true → IsPlainCode a b c d
+plain_code a b c d e = by_test (is_hex a) (is_hex b) (is_hex c) (is_hex d) (is_surrogate a b) refl refl refl refl refl e
+  where
+    by_test : (h i j k s : Bool) → is_hex a ≡ h → is_hex b ≡ i → is_hex c ≡ j → is_hex d ≡ k → is_surrogate a b ≡ s → h && i && j && k && not s ≡ true → IsPlainCode a b c d
+    by_test true true true true false p q r t u is = record { first = p; second = q; third = r; fourth = t; plain = u }
+    by_test true true true true true p q r t u is = cc
+    by_test true true true false s p q r t u is = cc
+    by_test true true false k s p q r t u is = cc
+    by_test true false j k s p q r t u is = cc
+    by_test false i j k s p q r t u is = cc
+
+by_half : (a b n : ℕ) → a < 16 → b < 16 → (a == 13) && not (nat_lt b 8) ≡ false → n < 256 → IsScalar ((a * 16 + b) * 256 + n)
+by_half a b n x y e z = by_test (a == 13) (nat_lt b 8) refl refl e
+  where
+    scalar_high : (c : ℕ) → 57344 ≤ c → c < 1114112 → IsScalar c
+    scalar_high c h k = grind (arith, nat_tests)
+
+    by_order : (a < 13) ⊎ (13 < a) → IsScalar ((a * 16 + b) * 256 + n)
+    by_order (inl low) = low_scalar ((a * 16 + b) * 256 + n) (omega (arith, low, y, z))
+    by_order (inr high) = scalar_high ((a * 16 + b) * 256 + n) (omega (arith, high, y, z)) (omega (arith, x, y, z))
+
+    by_test : (s t : Bool) → (a == 13) ≡ s → nat_lt b 8 ≡ t → s && not t ≡ false → IsScalar ((a * 16 + b) * 256 + n)
+    by_test false t h k is = by_order (grind arith)
+    by_test true true h k is = let same : a ≡ 13 = grind arith in let low : b < 8 = grind arith in low_scalar ((a * 16 + b) * 256 + n) (omega (arith, same, low, z))
+    by_test true false h k is = cc
+
+pub code_scalar : (a b c d : ℕ) → is_code a b c d ≡ true → IsScalar (hex_natural (a ∷ b ∷ c ∷ d ∷ []))
+code_scalar a b c d h =
+    let x = counts_below a in
+    let y = counts_below b in
+    let z = counts_below c in
+    let w = counts_below d in
+    let p = plain_code a b c d h in
+    let low : count_in (hex_digit c) * 16 + count_in (hex_digit d) < 256 = omega (arith, z, w) in
+    subst IsScalar (sym (four_digits a b c d)) (by_half (count_in (hex_digit a)) (count_in (hex_digit b)) (count_in (hex_digit c) * 16 + count_in (hex_digit d)) x y (sym (same_test a b p.first p.second) ∙ p.plain) low)

@@ -6,17 +6,24 @@ use rp_base::{Blob, NoMemory, Text};
 use std::alloc::Global;
 
 /// The text that a text literal stands for. None where the text is no such literal. Time is linear in the literal.
-#[tactic(auto, unfolding(crate::specs::Values::text_value))]
 pub fn text_literal(alloc: Global, text: &str) -> Result<Option<Text>, NoMemory>
     ensures { IfOk result (λ found. found ≡ text_value text.now) }
 {
-    let [quote @ (b'\'' | b'"'), rest @ ..] = text.as_bytes() else {
-        return Ok(None);
-    };
-    let Some(bytes) = body(alloc, false, *quote, rest)? else {
+    let Some(bytes) = text_bytes(alloc, text.as_bytes())? else {
         return Ok(None);
     };
     Ok(text_of(bytes))
+}
+
+/// The bytes of the text that a text literal stands for.
+#[tactic(auto, unfolding(crate::specs::Values::text_value))]
+fn text_bytes(alloc: Global, text: &[u8]) -> Result<Option<Vec<u8>>, NoMemory>
+    ensures { IfOk result (λ found. option_map (λ v. v.items) found ≡ text_value text.now) }
+{
+    let [quote @ (b'\'' | b'"'), rest @ ..] = text else {
+        return Ok(None);
+    };
+    body(alloc, false, *quote, rest)
 }
 
 /// The text with these bytes, which are UTF-8.
