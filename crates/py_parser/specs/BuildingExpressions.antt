@@ -1,14 +1,12 @@
 -- The expressions that acts make of the parts that wait. Lists of parts have the last one first.
-use Rattle.std.specs.Prelude.{ℕ, ℤ, List, [], ◌∷◌, ◌++◌, length, codes, slice_get, Option, Some, None, true, false, if◌then◌else◌}
+use Rattle.std.specs.Prelude.{ℕ, ℤ, List, [], ◌∷◌, codes, Option, Some, None, if◌then◌else◌}
 use Rattle.std.specs.Str.{bytes_eq}
 use Rattle.py_ast.specs.Builtins.{builtin_of}
 use Rattle.py_ast.specs.declared.builtin.Builtin.{Builtin}
 use Rattle.py_ast.specs.declared.expression.Expression.{Expression}
 use Rattle.py_ast.specs.declared.expression.Expression.TheVariants as expression
 use Rattle.py_ast.specs.declared.expression.Link.{Link}
-use Rattle.py_ast.specs.declared.name.Name.{Name}
 use Rattle.py_ast.specs.declared.node.Node.TheVariants as node
-use Rattle.py_ast.specs.declared.program.FunctionInfo.{FunctionInfo}
 use Rattle.rp_base.specs.declared.operators.BinaryOp.{BinaryOp}
 use Rattle.rp_base.specs.declared.operators.UnaryOp.{UnaryOp}
 use Rattle.rp_base.specs.declared.plain.Plain.{Plain}
@@ -19,7 +17,6 @@ use Rattle.py_parser.specs.declared.builder.Building.{Building}
 use Rattle.py_parser.specs.declared.parts.Gathering.{Gathering}
 use Rattle.py_parser.specs.declared.parts.Tree.{Tree}
 use Rattle.py_parser.specs.Building.{stuck, with_tree, value_tree, place_tree}
-use Rattle.py_parser.specs.BuildingParts.{with_body}
 
 -- a builtin's name, `NotImplemented`, or any other name
 abbrev pub named : Option Builtin → List ℕ → Expression
@@ -102,24 +99,3 @@ tuple [] b = stuck b
 
 abbrev pub empty_tuple : Building → Building
 empty_tuple b = value_tree (expression.Tuple []) b.line b
-
--- A function begins: it has the next number, and is now the innermost.
-abbrev pub with_function : List ℕ → List Name → Building → Building
-with_function word parameters b = record b {
-    functions = b.functions ++ record {
-        name = word; parameters = parameters; locals = []; free = []; has_inner = false; parent = b.function; body = 0 } ∷ [];
-    function = Some (length b.functions) }
-
--- The function that ends gets its body, and the one around it is the innermost again.
-abbrev pub without_function : ℕ → ℕ → Option FunctionInfo → Building → Building
-without_function number body (Some info) b = record b { functions = with_body number body b.functions; function = info.parent }
-without_function number body None b = stuck b
-
-abbrev pub begin_lambda : List (List Name) → Building → Building
-begin_lambda (parameters ∷ others) b = with_function (codes "<lambda>") parameters (record b { name_lists = others })
-begin_lambda [] b = stuck b
-
-abbrev pub end_lambda : Option ℕ → List Tree → List ℕ → Building → Building
-end_lambda (Some number) (body ∷ trees) (at ∷ marks) b =
-    value_tree (expression.Lambda number) at (without_function number body.number (slice_get b.functions number) (record b { trees = trees; marks = marks }))
-end_lambda _ _ _ b = stuck b

@@ -2,8 +2,12 @@ ghost use Rattle.std.specs.Prelude.{◌≡◌, length, IfOk};
 ghost use Rattle.py_parser.specs.Building.{begun, stuck, taken_in, with_node, with_tree, with_suite, place_tree, statement_tree, value_tree};
 
 
+mod expressions;
+mod functions;
 mod gathering;
 mod signs;
+mod statements;
+mod targets;
 
 use crate::parts::{Form, Functions, Gathering, Sign, Stack, Tree, Word};
 use py_ast::{Expression, Link, Name, Node, Statement};
