@@ -1,0 +1,6 @@
+pub mod ExactLaws
+pub mod RefusalLaws
+pub mod SetLaws
+pub mod TableIsSound
+pub mod TakenLaws
+pub mod TerminalLaws

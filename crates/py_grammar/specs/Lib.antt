@@ -1,4 +1,10 @@
+pub mod Building
+pub mod Deriving
+pub mod Reading
+pub mod Refusals
 pub mod Sets
+pub mod Soundness
 pub mod Table
 pub mod Terminals
 pub mod Ways
+pub mod Writing
