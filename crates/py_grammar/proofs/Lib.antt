@@ -1,4 +1,5 @@
 pub mod ExactLaws
+pub mod PieceLaws
 pub mod RefusalLaws
 pub mod SetLaws
 pub mod TableIsSound
