@@ -1,5 +1,5 @@
 -- What has a derivation is read to the end.
-use Rattle.std.proofs.Common.{◌≡◌, ◌∙◌, sym, refl, ap, subst, ℕ, zero, suc, ◌<◌, ◌≤◌, Bool, true, false, not, ◌&&◌, ◌||◌, nat_le, nat_lt, List, [], ◌∷◌, ◌++◌, Option, Some, None, zero-le, arith, ltb-true, lt-ltb, le-ltb}
+use Rattle.std.proofs.Common.{◌≡◌, ◌∙◌, sym, refl, ap, ℕ, zero, suc, ◌<◌, ◌≤◌, Bool, true, false, not, ◌&&◌, ◌||◌, nat_le, nat_lt, List, [], ◌∷◌, ◌++◌, Some, None, zero-le, arith, ltb-true, lt-ltb, le-ltb}
 use Rattle.py_grammar.specs.declared.act.Act.{Act}
 use Rattle.py_grammar.specs.declared.symbol.Limits.{Limits}
 use Rattle.py_grammar.specs.declared.symbol.Symbol.{Symbol}
@@ -9,17 +9,17 @@ use Rattle.py_grammar.specs.declared.terminal.Terminal.TheVariants as t
 use Rattle.py_grammar.specs.declared.word.Word.{Word}
 use Rattle.py_grammar.specs.Building.{Lexeme, Builder, passes}
 use Rattle.py_grammar.specs.Deriving.{Derives, Ends, Takes, Makes, Skips, Opens}
-use Rattle.py_grammar.specs.Reading.{has, is_there, nullable, begins, pick, in_reach, fits, Step, Refused, Took, Closed, when, opening_by, skipping, step, Outcome, Done, Stuck, one_further, closed, go_on, run, depth_of_words}
+use Rattle.py_grammar.specs.Reading.{has, is_there, nullable, begins, pick, in_reach, fits, Step, Took, Closed, when, opening_by, skipping, step, Outcome, Done, one_further, go_on, run, depth_of_words}
 use Rattle.py_grammar.specs.Sets.{first, follow, rank}
-use Rattle.py_grammar.specs.Soundness.{fronts, within, apart, leads, placed, sound_way, sound_ways, short, sound}
+use Rattle.py_grammar.specs.Soundness.{fronts, within, apart, leads, placed, sound_ways, short}
 use Rattle.py_grammar.specs.Table.{ways, empty}
 use Rattle.py_grammar.specs.Terminals.{same}
 use Rattle.py_grammar.specs.Ways.{Way}
 use Rattle.py_grammar.specs.Writing.{Among, deeper}
-use Rattle.py_grammar.proofs.SetLaws.{no, both, and, or-left, or-right, one_of, either, has-append, within-has, apart-has, begins-fronts, begins-opened, begins-more, begins-lead, sound-among, pick-finds, pick-none}
+use Rattle.py_grammar.proofs.SetLaws.{no, not-true, both, and, or-left, or-right, within-has, apart-has, begins-fronts, begins-opened, begins-more, begins-lead, sound-among, pick-finds, pick-none}
 use Rattle.py_grammar.proofs.TableIsSound.{is_sound}
 use Rattle.py_grammar.proofs.TakenLaws.{reach-append, derived-reach}
-use Rattle.py_grammar.proofs.TerminalLaws.{same-is, is-same}
+use Rattle.py_grammar.proofs.TerminalLaws.{is-same}
 
 -- ---- what the test says of each word
 
@@ -49,12 +49,12 @@ way-leads n w i = (both (leads (rank n) w.symbols) (within (fronts [] w.symbols)
 pub way-first : (n : Word) (w : Way) → Among w (ways n) → within (fronts [] w.symbols) (first n) ≡ true
 way-first n w i =
     (both (within (fronts [] w.symbols) (first n)) (placed (follow n) w.symbols)
-        (both (leads (rank n) w.symbols) (within (fronts [] w.symbols) (first n) && placed (follow n) w.symbols) (sound-among n w (ways n) i (all-sound n))).1).0
+    (both (leads (rank n) w.symbols) (within (fronts [] w.symbols) (first n) && placed (follow n) w.symbols) (sound-among n w (ways n) i (all-sound n))).1).0
 
 pub way-placed : (n : Word) (w : Way) → Among w (ways n) → placed (follow n) w.symbols ≡ true
 way-placed n w i =
     (both (within (fronts [] w.symbols) (first n)) (placed (follow n) w.symbols)
-        (both (leads (rank n) w.symbols) (within (fronts [] w.symbols) (first n) && placed (follow n) w.symbols) (sound-among n w (ways n) i (all-sound n))).1).1
+    (both (leads (rank n) w.symbols) (within (fronts [] w.symbols) (first n) && placed (follow n) w.symbols) (sound-among n w (ways n) i (all-sound n))).1).1
 
 pub empty-there : (n : Word) (a : Act) → empty n ≡ Some a → nullable n ≡ true
 empty-there n a e = ap is_there e
@@ -89,24 +89,25 @@ starts B m lim (Opens {n = n} {d = d} {ss = ss} {ts = ts} w i h g r) =
     starts-more (deeper d w.symbols ++ ss) (Nt n d ∷ ss) ts
     (λ x k p. or-left (has k (first n)) (nullable n && begins x k ss) (opened-has n w i k (opened-first n w d ss i x k p))) (starts B m lim r)
 
--- ---- what stands behind each word is in its set
+-- ---- what stands behind each word is in its set, and no token is the end
 
-pub Good : List Symbol → Type 0
+unfoldable pub Good : List Symbol → Type 0
 Good [] = Unit {0}
-Good (Tk k ∷ ss) = Good ss
+Good (Tk k ∷ ss) = (same k t.End ≡ false) × Good ss
 Good (Do a ∷ ss) = Good ss
 Good (Nt n d ∷ ss) = ((k : Terminal) → begins (same k t.End) k ss ≡ true → has k (follow n) ≡ true) × Good ss
 
 good-opened : (ks : List Terminal) (d : ℕ) (xs ss : List Symbol) → placed ks xs ≡ true → ((k : Terminal) → begins (same k t.End) k ss ≡ true → has k ks ≡ true) → Good ss → Good (deeper d xs ++ ss)
 unfolding Good
 good-opened ks d [] ss p f g = g
-good-opened ks d (Tk k ∷ xs) ss p f g = good-opened ks d xs ss p f g
+good-opened ks d (Tk k ∷ xs) ss p f g = let q = both (not (same k t.End)) (placed ks xs) p in (not-true (same k t.End) q.0, good-opened ks d xs ss q.1 f g)
 good-opened ks d (Do a ∷ xs) ss p f g = good-opened ks d xs ss p f g
 good-opened ks d (Nt n c ∷ xs) ss p f g =
-    let q = both (within (fronts ks xs) (follow n)) (placed ks xs) p in
-    (λ k h. within-has k (fronts ks xs) (follow n) q.0
-        (sym (begins-fronts k ks xs) ∙ begins-more k (begins (same k t.End) k ss) (has k ks) xs (f k) (sym (begins-opened (same k t.End) k d xs ss) ∙ h))
-    , good-opened ks d xs ss q.1 f g)
+    let q = both (within (fronts ks xs) (follow n)) (placed ks xs) p in (
+      λ k h. within-has k (fronts ks xs) (follow n) q.0
+          (sym (begins-fronts k ks xs) ∙ begins-more k (begins (same k t.End) k ss) (has k ks) xs (f k) (sym (begins-opened (same k t.End) k d xs ss) ∙ h)),
+      good-opened ks d xs ss q.1 f g,
+    )
 
 pub good-way : (n : Word) (w : Way) (d : ℕ) (ss : List Symbol) → Among w (ways n) → Good (Nt n d ∷ ss) → Good (deeper d w.symbols ++ ss)
 unfolding Good
@@ -116,13 +117,14 @@ good-way n w d ss i g = good-opened (follow n) d w.symbols ss (way-placed n w i)
 pub good-start : (ss : List Symbol) → placed (t.End ∷ []) ss ≡ true → Good ss
 unfolding Good
 good-start [] p = tt
-good-start (Tk k ∷ ss) p = good-start ss p
+good-start (Tk k ∷ ss) p = let q = both (not (same k t.End)) (placed (t.End ∷ []) ss) p in (not-true (same k t.End) q.0, good-start ss q.1)
 good-start (Do a ∷ ss) p = good-start ss p
 good-start (Nt n d ∷ ss) p =
-    let q = both (within (fronts (t.End ∷ []) ss) (follow n)) (placed (t.End ∷ []) ss) p in
-    (λ k h. within-has k (fronts (t.End ∷ []) ss) (follow n) q.0
-        (sym (begins-fronts k (t.End ∷ []) ss) ∙ begins-more k (same k t.End) (same k t.End || false) ss (or-left (same k t.End) false) h)
-    , good-start ss q.1)
+    let q = both (within (fronts (t.End ∷ []) ss) (follow n)) (placed (t.End ∷ []) ss) p in (
+      λ k h. within-has k (fronts (t.End ∷ []) ss) (follow n) q.0
+          (sym (begins-fronts k (t.End ∷ []) ss) ∙ begins-more k (same k t.End) (same k t.End || false) ss (or-left (same k t.End) false) h),
+      good-start ss q.1,
+    )
 
 -- ---- enough words may open
 
@@ -198,10 +200,12 @@ unfolding below Good
 skip-step B m lim n d ss b a u zero e g h l = below-zero n (not (nullable n) || below zero ss) l
 skip-step B m lim n d ss b a u (suc f) e g h l =
     let behind : has u.kind (follow n) ≡ true = g.0 u.kind h in
-    let picks : pick (ways n) u.kind ≡ None = pick-none n u.kind (ways n) (all-sound n) (λ i. apart-has u.kind (first n) (follow n) (or-there (nullable n) (apart (first n) (follow n)) (apart-or-full n) (empty-there n a e)) i behind) in
-    (suc f, or-there (nullable n) (below (suc f) ss) (both (nat_lt (rank n) (suc f)) (not (nullable n) || below (suc f) ss) l).1 (empty-there n a e)
-    , ap (λ o. opening_by B o (λ w. when B (fits B m lim w d b) (step B m lim f (deeper d w.symbols ++ ss) b u)) (skipping B (empty n) (λ x. step B m lim (suc f) ss (m.act x b) u))) picks
-    ∙ ap (λ o. skipping B o (λ x. step B m lim (suc f) ss (m.act x b) u)) e)
+    let picks : pick (ways n) u.kind ≡ None = pick-none n u.kind (ways n) (all-sound n) (λ i. apart-has u.kind (first n) (follow n) (or-there (nullable n) (apart (first n) (follow n)) (apart-or-full n) (empty-there n a e)) i behind) in (
+      suc f,
+      or-there (nullable n) (below (suc f) ss) (both (nat_lt (rank n) (suc f)) (not (nullable n) || below (suc f) ss) l).1 (empty-there n a e),
+      ap (λ o. opening_by B o (λ w. when B (fits B m lim w d b) (step B m lim f (deeper d w.symbols ++ ss) b u)) (skipping B (empty n) (λ x. step B m lim (suc f) ss (m.act x b) u))) picks
+          ∙ ap (λ o. skipping B o (λ x. step B m lim (suc f) ss (m.act x b) u)) e,
+    )
 
 -- a word that is written
 open-step : (B : Type 0) (m : Builder B) (lim : Limits) (n : Word) (d : ℕ) (ss : List Symbol) (b : B) (w : Way) (u : Lexeme) (f : ℕ)
@@ -210,11 +214,13 @@ open-step : (B : Type 0) (m : Builder B) (lim : Limits) (n : Word) (d : ℕ) (ss
 unfolding below
 open-step B m lim n d ss b w u zero i fit h l = below-zero n (not (nullable n) || below zero ss) l
 open-step B m lim n d ss b w u (suc f) i fit h l =
-    let lt : rank n < suc f = ltb-true (rank n) (suc f) (both (nat_lt (rank n) (suc f)) (not (nullable n) || below (suc f) ss) l).0 in
-    (f, below-opened (rank n) f d w.symbols ss (omega arith) (way-leads n w i)
-    , ap (λ o. opening_by B o (λ v. when B (fits B m lim v d b) (step B m lim f (deeper d v.symbols ++ ss) b u)) (skipping B (empty n) (λ x. step B m lim (suc f) ss (m.act x b) u)))
-        (pick-finds n u.kind w (ways n) i (all-sound n) (opened-first n w d ss i (same u.kind t.End) u.kind h))
-    ∙ when-true B (fits B m lim w d b) (step B m lim f (deeper d w.symbols ++ ss) b u) fit)
+    let lt : rank n < suc f = ltb-true (rank n) (suc f) (both (nat_lt (rank n) (suc f)) (not (nullable n) || below (suc f) ss) l).0 in (
+      f,
+      below-opened (rank n) f d w.symbols ss (omega arith) (way-leads n w i),
+      ap (λ o. opening_by B o (λ v. when B (fits B m lim v d b) (step B m lim f (deeper d v.symbols ++ ss) b u)) (skipping B (empty n) (λ x. step B m lim (suc f) ss (m.act x b) u)))
+          (pick-finds n u.kind w (ways n) i (all-sound n) (opened-first n w d ss i (same u.kind t.End) u.kind h))
+          ∙ when-true B (fits B m lim w d b) (step B m lim f (deeper d w.symbols ++ ss) b u) fit,
+    )
 
 pub derived-reads : (B : Type 0) (m : Builder B) (lim : Limits) {ss : List Symbol} {b out : B} {ts : List Lexeme} → Derives B m lim ss b ts out → Good ss → ReadsTo B m lim ss b ts out
 unfolding ReadsTo Good below
@@ -222,7 +228,7 @@ derived-reads B m lim (Ends {b = b} {out = out} {u = u} e o) g =
     λ f l. ap (λ s. go_on B (λ rest c. run B m lim rest c []) s []) (when-true B (same u.kind t.End) (Closed b) (is-same u.kind t.End e)) ∙ ap (λ x. Done x) o
 derived-reads B m lim (Takes {k = k} {ss = ss} {b = b} {out = out} {u = u} {ts = ts} e r) g =
     λ f l. ap (λ s. go_on B (λ rest c. run B m lim rest c ts) s ts) (when-true B (same u.kind k) (Took ss (m.take_in u b)) (is-same u.kind k e))
-    ∙ further B (run B m lim ss (m.take_in u b) ts) out (reads-run B m lim ss (m.take_in u b) out ts (derived-reads B m lim r g))
+    ∙ further B (run B m lim ss (m.take_in u b) ts) out (reads-run B m lim ss (m.take_in u b) out ts (derived-reads B m lim r g.1))
 derived-reads B m lim (Makes {a = a} {ss = ss} {b = b} {out = out} {ts = ts} r) g =
     reads-front B m lim ss (Do a ∷ ss) (m.act a b) b out ts (λ u f i l. (f, l, refl)) (starts B m lim r) (derived-reads B m lim r g)
 derived-reads B m lim (Skips {n = n} {d = d} {ss = ss} {b = b} {out = out} {ts = ts} a e r) g =

@@ -1,5 +1,5 @@
 -- What is written by pieces is what is derived from the left.
-use Rattle.std.proofs.Common.{◌≡◌, ◌∙◌, sym, refl, ap, subst, ℕ, Bool, true, nat_le, List, [], ◌∷◌, ◌++◌, Option, Some, append_assoc, append-nil}
+use Rattle.std.proofs.Common.{◌≡◌, ◌∙◌, sym, refl, ap, subst, ℕ, List, [], ◌∷◌, ◌++◌, append_assoc, append-nil}
 use Rattle.py_grammar.specs.declared.act.Act.{Act}
 use Rattle.py_grammar.specs.declared.symbol.Limits.{Limits}
 use Rattle.py_grammar.specs.declared.symbol.Symbol.{Symbol}
@@ -7,11 +7,9 @@ use Rattle.py_grammar.specs.declared.symbol.Symbol.TheVariants.{Terminal as Tk, 
 use Rattle.py_grammar.specs.declared.terminal.Terminal.{Terminal}
 use Rattle.py_grammar.specs.declared.terminal.Terminal.TheVariants as t
 use Rattle.py_grammar.specs.declared.word.Word.{Word}
-use Rattle.py_grammar.specs.Building.{Lexeme, Builder, passes}
+use Rattle.py_grammar.specs.Building.{Lexeme, Builder}
 use Rattle.py_grammar.specs.Deriving.{Derives, Ends, Takes, Makes, Skips, Opens}
-use Rattle.py_grammar.specs.Table.{ways, empty}
-use Rattle.py_grammar.specs.Ways.{Way}
-use Rattle.py_grammar.specs.Writing.{Among, deeper, Writes, NoMore, OneToken, Building, Absent, Written}
+use Rattle.py_grammar.specs.Writing.{deeper, Writes, NoMore, OneToken, Building, Absent, Written}
 
 -- ---- from pieces
 

@@ -1,5 +1,5 @@
 -- Where the reading is stuck, the tokens so far can be completed, and with the next one they cannot.
-use Rattle.std.proofs.Common.{◌≡◌, ◌∙◌, sym, refl, ap, subst, ℕ, zero, suc, ◌<◌, ◌≤◌, Bool, true, false, not, ◌&&◌, ◌||◌, ◌⊎◌, inl, inr, nat_le, nat_lt, nat_eq, eqb-true, List, [], ◌∷◌, ◌++◌, Option, Some, None, arith, ltb-true, lt-ltb, le-ltb, zero-le, pred, suc-ne-zero}
+use Rattle.std.proofs.Common.{◌≡◌, ◌∙◌, sym, refl, ap, subst, ℕ, zero, suc, ◌<◌, true, ◌&&◌, ◌||◌, inl, nat_le, nat_lt, nat_eq, eqb-true, List, [], ◌∷◌, ◌++◌, Option, Some, None, arith, ltb-true, lt-ltb, le-ltb, zero-le, pred, suc-ne-zero}
 use Rattle.py_grammar.specs.declared.act.Act.{Act}
 use Rattle.py_grammar.specs.declared.symbol.Guard.{Guard}
 use Rattle.py_grammar.specs.declared.symbol.Limits.{Limits}
@@ -10,14 +10,14 @@ use Rattle.py_grammar.specs.declared.terminal.Terminal.TheVariants as t
 use Rattle.py_grammar.specs.declared.word.Word.{Word}
 use Rattle.py_grammar.specs.Building.{Lexeme, Builder, passes}
 use Rattle.py_grammar.specs.Deriving.{Derives, Ends, Takes, Makes, Skips, Opens, CanBegin}
-use Rattle.py_grammar.specs.Reading.{is_there, nullable, in_reach, Step, Refused, Took, Closed, step, Outcome, Done, Stuck, one_further, closed, go_on, run, depth_of_words}
+use Rattle.py_grammar.specs.Reading.{is_there, nullable, in_reach, Step, Refused, Took, Closed, step, Outcome, Done, Stuck, one_further, go_on, run, depth_of_words}
 use Rattle.py_grammar.specs.Sets.{rank}
 use Rattle.py_grammar.specs.Soundness.{free, brief, short}
 use Rattle.py_grammar.specs.Table.{ways, empty}
 use Rattle.py_grammar.specs.Ways.{Way}
 use Rattle.py_grammar.specs.Writing.{Among, deeper, inward}
 use Rattle.py_grammar.specs.Refusals.{leading, IsAt}
-use Rattle.py_grammar.proofs.SetLaws.{no, both, and, either, one_of}
+use Rattle.py_grammar.proofs.SetLaws.{no, both, either, one_of}
 use Rattle.py_grammar.proofs.TakenLaws.{After, step-after, Reaches, step-reaches, stuck-done, done-one, stuck-one}
 use Rattle.py_grammar.proofs.ExactLaws.{empty-or-short, Good, derives-done}
 
@@ -60,7 +60,7 @@ way-fill B m lim r d (Nt n e ∷ xs) ss g h f =
     let rest = way-fill B m lim r d xs ss g p.1 f in
     one_of (λ i. skip-fill B m lim n (inward e d) (deeper d xs ++ ss) i rest)
     (λ i. let q = both (nat_lt (rank n) r) (nat_eq e 0) i in
-        subst (λ x. Completes B m lim (Nt n x ∷ (deeper d xs ++ ss))) (sym (inward-zero e d q.1)) (g n (deeper d xs ++ ss) q.0 rest))
+    subst (λ x. Completes B m lim (Nt n x ∷ (deeper d xs ++ ss))) (sym (inward-zero e d q.1)) (g n (deeper d xs ++ ss) q.0 rest))
     (either (nullable n) (nat_lt (rank n) r && nat_eq e 0) p.0)
 
 free-passes : (B : Type 0) (m : Builder B) (lim : Limits) (o : Option Guard) (b : B) → free o ≡ true → passes B m lim o b ≡ true
@@ -91,8 +91,8 @@ word-fill B m lim zero n d ss h le c = no (sym (le-ltb (rank n) 0 zero-le) ∙ h
 word-fill B m lim (suc f) n d ss h le c =
     one_of (λ i. skip-fill B m lim n d ss i c)
     (λ i. let w = first-way n (ways n) i in
-        open-fill B m lim n d ss w.0 w.1 w.2 le
-        (way-fill B m lim (rank n) d w.0.symbols ss (λ x rest j. word-fill B m lim f x d rest (le-more (rank x) (rank n) f j h) le) w.3 c))
+    open-fill B m lim n d ss w.0 w.1 w.2 le
+    (way-fill B m lim (rank n) d w.0.symbols ss (λ x rest j. word-fill B m lim f x d rest (le-more (rank x) (rank n) f j h) le) w.3 c))
     (either (nullable n) (short (rank n) (ways n)) (empty-or-short n))
 
 -- a stack in reach, over one that has ended
@@ -111,11 +111,11 @@ fill B m lim (Nt n d ∷ ss) h =
 zero-suc : (n : ℕ) → zero ≡ suc n → ⊥
 zero-suc n e = suc-ne-zero n (sym e)
 
-nowhere : (n : ℕ) (u : Lexeme) → IsAt n [] u → ⊥
+pub nowhere : (n : ℕ) (u : Lexeme) → IsAt n [] u → ⊥
 nowhere zero u i = i
 nowhere (suc n) u i = i
 
-further-stuck : (B : Type 0) (o : Outcome B) (n : ℕ) → one_further B o ≡ Stuck n → (k : ℕ) × (n ≡ suc k) × (o ≡ Stuck k)
+pub further-stuck : (B : Type 0) (o : Outcome B) (n : ℕ) → one_further B o ≡ Stuck n → (k : ℕ) × (n ≡ suc k) × (o ≡ Stuck k)
 further-stuck B (Done b) n e = absurd (stuck-done B n b (sym e))
 further-stuck B (Stuck k) n e = (k, sym (stuck-one B (suc k) n e), refl)
 
@@ -158,7 +158,7 @@ module _ (B : Type 0) (m : Builder B) (lim : Limits) where
       let k = further-stuck B (run B m lim rest c vs) (suc n) e in
       let is : n ≡ k.0 = ap pred k.1 in
       λ more. ap (λ s. go_on B (λ r d. run B m lim r d ((leading n vs ++ (u ∷ [])) ++ more)) s ((leading n vs ++ (u ∷ [])) ++ more)) q
-          ∙ ap (one_further B) (f rest c n (k.2 ∙ ap (λ x. Stuck x) (sym is)) i more)
+      ∙ ap (one_further B) (f rest c n (k.2 ∙ ap (λ x. Stuck x) (sym is)) i more)
   stays-of ss b v [] n u (Closed c) q f e i = absurd (stuck-done B n c (sym e))
   stays-of ss b v (w ∷ ws) zero u (Closed c) q f e i = absurd (zero-suc 0 (stuck-one B 0 1 (sym e)))
   stays-of ss b v (w ∷ ws) (suc zero) u (Closed c) q f e i = λ more. ap (λ s. go_on B (λ r d. run B m lim r d (u ∷ more)) s (u ∷ more)) q

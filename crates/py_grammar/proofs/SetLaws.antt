@@ -1,7 +1,6 @@
 -- Sets of tokens, what symbols begin with, and the way that is picked.
 use Rattle.std.proofs.Common.{◌≡◌, ◌∙◌, sym, refl, ap, subst, ℕ, Bool, true, false, not, ◌&&◌, ◌||◌, ◌⊎◌, inl, inr, List, [], ◌∷◌, ◌++◌, Option, Some, None, nat_lt, true≢false}
 use mathlib.Core.Bool.{false≢true}
-use Rattle.py_grammar.specs.declared.act.Act.{Act}
 use Rattle.py_grammar.specs.declared.symbol.Symbol.{Symbol}
 use Rattle.py_grammar.specs.declared.symbol.Symbol.TheVariants.{Terminal as Tk, Word as Nt, Act as Do}
 use Rattle.py_grammar.specs.declared.terminal.Terminal.{Terminal}
@@ -12,7 +11,7 @@ use Rattle.py_grammar.specs.Soundness.{before, fronts, within, apart, leads, pla
 use Rattle.py_grammar.specs.Terminals.{same}
 use Rattle.py_grammar.specs.Ways.{Way}
 use Rattle.py_grammar.specs.Writing.{Among, deeper}
-use Rattle.py_grammar.proofs.TerminalLaws.{same-is, is-same}
+use Rattle.py_grammar.proofs.TerminalLaws.{same-is}
 
 -- ---- tests
 

@@ -4,7 +4,6 @@ use Rattle.py_grammar.specs.declared.act.Act.{Act}
 use Rattle.py_grammar.specs.declared.symbol.Limits.{Limits}
 use Rattle.py_grammar.specs.declared.symbol.Symbol.{Symbol}
 use Rattle.py_grammar.specs.declared.symbol.Symbol.TheVariants.{Terminal as Tk, Word as Nt, Act as Do}
-use Rattle.py_grammar.specs.declared.terminal.Terminal.{Terminal}
 use Rattle.py_grammar.specs.declared.terminal.Terminal.TheVariants as t
 use Rattle.py_grammar.specs.declared.word.Word.{Word}
 use Rattle.py_grammar.specs.Building.{Lexeme, Builder, passes}
@@ -14,7 +13,7 @@ use Rattle.py_grammar.specs.Table.{ways, empty}
 use Rattle.py_grammar.specs.Terminals.{same}
 use Rattle.py_grammar.specs.Ways.{Way}
 use Rattle.py_grammar.specs.Writing.{Among, deeper}
-use Rattle.py_grammar.proofs.SetLaws.{no, both, and, or-left, or-right, and-and, pick-among}
+use Rattle.py_grammar.proofs.SetLaws.{both, and, or-left, or-right, and-and, pick-among}
 use Rattle.py_grammar.proofs.TerminalLaws.{same-is}
 
 -- ---- outcomes
@@ -93,12 +92,12 @@ step-after B m lim (suc f) (Nt n d ∷ ss) b u =
     after-opening B m lim (Nt n d ∷ ss) b u n (pick (ways n) u.kind)
     (λ w. when B (fits B m lim w d b) (step B m lim f (deeper d w.symbols ++ ss) b u)) (skipping B (empty n) (λ a. step B m lim (suc f) ss (m.act a b) u)) refl
     (λ w i. after-when B m lim (Nt n d ∷ ss) b u (fits B m lim w d b) (step B m lim f (deeper d w.symbols ++ ss) b u)
-        (λ e. let x = both (nat_le d lim.levels) (passes B m lim w.guard b && in_reach lim (deeper d w.symbols)) e in
-            let y = both (passes B m lim w.guard b) (in_reach lim (deeper d w.symbols)) x.1 in
-            after-front B m lim (deeper d w.symbols ++ ss) (Nt n d ∷ ss) b b u (step B m lim f (deeper d w.symbols ++ ss) b u)
-            (λ ts out r. Opens w i x.0 y.0 r) (step-after B m lim f (deeper d w.symbols ++ ss) b u)))
+    (λ e. let x = both (nat_le d lim.levels) (passes B m lim w.guard b && in_reach lim (deeper d w.symbols)) e in
+    let y = both (passes B m lim w.guard b) (in_reach lim (deeper d w.symbols)) x.1 in
+    after-front B m lim (deeper d w.symbols ++ ss) (Nt n d ∷ ss) b b u (step B m lim f (deeper d w.symbols ++ ss) b u)
+    (λ ts out r. Opens w i x.0 y.0 r) (step-after B m lim f (deeper d w.symbols ++ ss) b u)))
     (after-skipping B m lim (Nt n d ∷ ss) b u n (empty n) (λ a. step B m lim (suc f) ss (m.act a b) u) refl
-        (λ a e. after-front B m lim ss (Nt n d ∷ ss) b (m.act a b) u (step B m lim (suc f) ss (m.act a b) u) (λ ts out r. Skips a e r) (step-after B m lim (suc f) ss (m.act a b) u)))
+    (λ a e. after-front B m lim ss (Nt n d ∷ ss) b (m.act a b) u (step B m lim (suc f) ss (m.act a b) u) (λ ts out r. Skips a e r) (step-after B m lim (suc f) ss (m.act a b) u)))
 
 -- ---- what stays on the stack is in reach
 
@@ -140,9 +139,9 @@ step-reaches B m lim (suc f) (Nt n d ∷ ss) b u r =
     reach-opening B lim (pick (ways n) u.kind)
     (λ w. when B (fits B m lim w d b) (step B m lim f (deeper d w.symbols ++ ss) b u)) (skipping B (empty n) (λ a. step B m lim (suc f) ss (m.act a b) u))
     (λ w. reach-when B lim (fits B m lim w d b) (step B m lim f (deeper d w.symbols ++ ss) b u)
-        (λ e. let x = (both (nat_le d lim.levels) (passes B m lim w.guard b && in_reach lim (deeper d w.symbols)) e).1 in
-            let y = (both (passes B m lim w.guard b) (in_reach lim (deeper d w.symbols)) x).1 in
-            step-reaches B m lim f (deeper d w.symbols ++ ss) b u (reach-append lim (deeper d w.symbols) ss ∙ and (in_reach lim (deeper d w.symbols)) (in_reach lim ss) y rest)))
+    (λ e. let x = (both (nat_le d lim.levels) (passes B m lim w.guard b && in_reach lim (deeper d w.symbols)) e).1 in
+    let y = (both (passes B m lim w.guard b) (in_reach lim (deeper d w.symbols)) x).1 in
+    step-reaches B m lim f (deeper d w.symbols ++ ss) b u (reach-append lim (deeper d w.symbols) ss ∙ and (in_reach lim (deeper d w.symbols)) (in_reach lim ss) y rest)))
     (reach-skipping B lim (empty n) (λ a. step B m lim (suc f) ss (m.act a b) u) (λ a. step-reaches B m lim (suc f) ss (m.act a b) u rest))
 
 -- what can be derived is in reach

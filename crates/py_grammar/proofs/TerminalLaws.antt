@@ -1,5 +1,5 @@
 -- Two terminals are the same where the test says so.
-use Rattle.std.proofs.Common.{◌≡◌, ◌∙◌, sym, refl, ap, ap₂, ℕ, eqb, true, eqb-true, eq-eqb}
+use Rattle.std.proofs.Common.{◌≡◌, ◌∙◌, sym, refl, ap, ap₂, eqb, true, eqb-true, eq-eqb}
 use denote.Enum.Bare.{sameb, tag_one}
 use denote.Enum.Declared.{tag_of}
 use Rattle.py_grammar.specs.contracts.terminal.Terminal as code

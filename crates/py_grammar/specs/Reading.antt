@@ -77,7 +77,7 @@ step B m lim f (Do a ∷ ss) b u = step B m lim f ss (m.act a b) u
 step B m lim zero (Nt n d ∷ ss) b u = Refused
 step B m lim (suc f) (Nt n d ∷ ss) b u =
     opening_by B (pick (ways n) u.kind) (λ w. when B (fits B m lim w d b) (step B m lim f (deeper d w.symbols ++ ss) b u))
-        (skipping B (empty n) (λ a. step B m lim (suc f) ss (m.act a b) u))
+    (skipping B (empty n) (λ a. step B m lim (suc f) ss (m.act a b) u))
 
 -- more than any rank
 abbrev pub depth_of_words : ℕ

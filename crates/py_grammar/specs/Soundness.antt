@@ -4,10 +4,12 @@ use Rattle.py_grammar.specs.declared.symbol.Guard.{Guard}
 use Rattle.py_grammar.specs.declared.symbol.Symbol.{Symbol}
 use Rattle.py_grammar.specs.declared.symbol.Symbol.TheVariants.{Terminal as Tk, Word as Nt, Act as Do}
 use Rattle.py_grammar.specs.declared.terminal.Terminal.{Terminal}
+use Rattle.py_grammar.specs.declared.terminal.Terminal.TheVariants as t
 use Rattle.py_grammar.specs.declared.word.Word.{Word}
 use Rattle.py_grammar.specs.Reading.{has, nullable, depth_of_words}
 use Rattle.py_grammar.specs.Sets.{first, follow, rank}
 use Rattle.py_grammar.specs.Table.{ways}
+use Rattle.py_grammar.specs.Terminals.{same}
 use Rattle.py_grammar.specs.Ways.{Way}
 
 abbrev pub before : Bool → List Terminal → List Terminal
@@ -36,10 +38,10 @@ leads r (Tk k ∷ ss) = true
 leads r (Do a ∷ ss) = leads r ss
 leads r (Nt n d ∷ ss) = nat_lt (rank n) r && (not (nullable n) || leads r ss)
 
--- what may stand behind each word is in its set
+-- what may stand behind each word is in its set, and the end of the text stands in no way
 abbrev pub placed : List Terminal → List Symbol → Bool
 placed behind [] = true
-placed behind (Tk k ∷ ss) = placed behind ss
+placed behind (Tk k ∷ ss) = not (same k t.End) && placed behind ss
 placed behind (Do a ∷ ss) = placed behind ss
 placed behind (Nt n d ∷ ss) = within (fronts behind ss) (follow n) && placed behind ss
 

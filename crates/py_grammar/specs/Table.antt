@@ -4,6 +4,8 @@ use Rattle.std.specs.Prelude.{List, [], ◌∷◌, Option, Some, None}
 use Rattle.py_grammar.specs.declared.act.Act.{Act}
 use Rattle.py_grammar.specs.declared.act.Act.TheVariants as a
 use Rattle.py_grammar.specs.declared.symbol.Guard.TheVariants as g
+use Rattle.py_grammar.specs.declared.symbol.Start.{Start}
+use Rattle.py_grammar.specs.declared.symbol.Start.TheVariants as starts
 use Rattle.py_grammar.specs.declared.symbol.Symbol.{Symbol}
 use Rattle.py_grammar.specs.declared.symbol.Symbol.TheVariants.{Terminal as Tk, Word as Nt, Act as Do}
 use Rattle.py_grammar.specs.declared.terminal.Terminal.TheVariants as t
@@ -195,3 +197,8 @@ empty w.Pairs = Some a.Nothing
 empty w.PairsTail = Some a.Nothing
 empty w.LineEnd = Some a.Nothing
 empty _ = None
+
+-- what stands at the start of a text
+abbrev pub opening : Start → List Symbol
+opening starts.Script = Do a.Begin ∷ Nt w.Statements 0 ∷ []
+opening starts.Expression = Nt w.Expr 0 ∷ Nt w.LineEnd 0 ∷ []

@@ -28,3 +28,12 @@ pub struct Limits {
     pub levels: u32,
     pub arguments: u32,
 }
+
+/// What a whole text is.
+#[derive(Clone, Copy, Debug, PartialEq, Eq)]
+pub enum Start {
+    /// Statements.
+    Script,
+    /// One expression, on one line.
+    Expression,
+}
