@@ -1,0 +1,4 @@
+//! Reads a script's tokens by the grammar's table.
+#![tactic(auto)]
+
+mod table;
