@@ -1,4 +1,4 @@
-/// What is built at a place of a way. It works on a stack of parts: trees, lists, names, operators and marks.
+/// What is built at a place of a way. It works on stacks of parts: trees, lists, names, suites, operators and marks.
 /// What makes a tree pushes it.
 #[derive(Clone, Copy, Debug, PartialEq, Eq)]
 pub enum Act {
@@ -10,28 +10,37 @@ pub enum Act {
     Begin,
     /// Pops a tree, and pushes a list that holds it alone, with its line.
     BeginWith,
-    /// Pops a tree, and adds it to the list below.
+    /// Pops a tree, and adds it to the list on top.
     Add,
-    /// Adds the last token, a name with its line, to the list on top.
+    /// Pushes an empty list of names.
+    BeginNames,
+    /// Adds the last token, a name with its line, to the list of names on top.
     AddName,
     /// Pushes the last token, a name with its line.
     Name,
     /// Pushes that no name stands there.
     NoName,
+    /// Pushes an empty list of links.
+    BeginLinks,
+    /// Pops a tree and a comparison, and adds both to the list of links on top.
+    AddLink,
+    /// Pushes the last token as a binary operator; of an augmented sign, the operator in it.
+    BinarySign,
+    /// Pushes the last token as a unary operator with its line.
+    UnarySign,
+    /// Pushes the last token as a comparison with its line; `not` stands for `not in`.
+    ComparisonSign,
+    /// The comparison on top, `is`, becomes `is not`.
+    Negate,
+    /// Pops a list: a suite.
+    MakeSuite,
     /// Pushes that no suite stands there.
     NoSuite,
-    /// Pushes the last token as an operator with its line; `not` stands for `not in`.
-    Operator,
-    /// The operator on top, `is`, becomes `is not`.
-    Negate,
-    /// Pops a tree and an operator, and adds both to the list below.
-    AddLink,
-    /// Pops a suite, a name or none, and a list of names, and adds them as a handler to the list below.
-    AddHandler,
-    /// Pops the suite of `else` (an empty list where there is none), a suite, a condition and a mark: an `if`
-    /// statement.
+    /// Pops a suite, a name or none, a list of names and a mark: a handler.
+    MakeHandler,
+    /// Pops the suite of `else` or none, a suite, a condition and a mark: an `if` statement.
     MakeIf,
-    /// The same, and pushes a list that holds the statement alone: the suite of an `else`.
+    /// The same, and pushes the statement as the suite of an `else`.
     MakeElif,
     /// Pops a suite, a condition and a mark: a `while` statement.
     MakeWhile,
@@ -39,7 +48,9 @@ pub enum Act {
     MakeFor,
     /// Pops the suite of `finally` or none, the list of handlers, a suite and a mark: a `try` statement.
     MakeTry,
-    /// Pops a suite, the list of parameters, a name and a mark: a `def` statement.
+    /// A function begins; functions are numbered so.
+    BeginDef,
+    /// Pops a suite, the list of parameters, a name and a mark: a `def` statement. Its function ends.
     MakeDef,
     /// Pops a suite, a base or none, a name and a mark: a `class` statement.
     MakeClass,
@@ -59,9 +70,9 @@ pub enum Act {
     MakeRaiseName,
     /// Pops the list of arguments, a name and a mark: a `raise` with parentheses.
     MakeRaise,
-    /// Pops a list of names: a `global` statement.
+    /// Pops a list of names and a mark: a `global` statement.
     MakeGlobal,
-    /// Pops a list of names: a `nonlocal` statement.
+    /// Pops a list of names and a mark: a `nonlocal` statement.
     MakeNonlocal,
     /// Pops a place and a mark: a `del` statement.
     MakeDel,
@@ -99,7 +110,9 @@ pub enum Act {
     MakeItem,
     /// Pops the list of arguments and what is called: a call.
     MakeCall,
-    /// Pops a body and the list of parameters: a lambda.
+    /// The function of a lambda begins.
+    BeginLambda,
+    /// Pops a body, the list of parameters and a mark: a lambda. Its function ends.
     MakeLambda,
     /// Pops the last branch, the condition and the first branch: a conditional.
     MakeConditional,
@@ -109,7 +122,7 @@ pub enum Act {
     MakeAnd,
     /// Pops a tree and a mark: a `not`.
     MakeNot,
-    /// Pops a list of operands and operators: a chain of comparisons.
+    /// Pops a list of links and the first operand: a chain of comparisons.
     MakeCompare,
     /// Pops the right side, an operator and the left side: a binary operation.
     MakeBinary,

@@ -5,8 +5,10 @@ use crate::word::Word;
 /// What must hold for a way to be taken.
 #[derive(Clone, Copy, Debug, PartialEq, Eq)]
 pub enum Guard {
-    /// The list on top has fewer items than there may be parameters or arguments.
-    Fewer,
+    /// The list on top has fewer items than there may be arguments.
+    FewerArguments,
+    /// The list of names on top has fewer than there may be parameters.
+    FewerParameters,
     /// The tree on top is made of targets: a name, an attribute or an item, or a tuple of them, none in parentheses.
     Targets,
     /// The tree on top is one name, attribute or item, and not in parentheses.
