@@ -1,5 +1,6 @@
-//! The grammar's reader: what it builds.
+//! Reads a script's tokens by the grammar's table.
 #![tactic(auto)]
 
 mod builder;
 mod parts;
+mod table;
