@@ -1,4 +1,5 @@
 ghost use Rattle.std.specs.Prelude.{◌≡◌, length, IfOk};
+ghost use Rattle.py_parser.specs.BuildingActs.{acted, holds};
 ghost use Rattle.py_parser.specs.Building.{begun, stuck, taken_in, with_node, with_tree, with_suite, place_tree, statement_tree, value_tree};
 
 
@@ -10,8 +11,9 @@ mod statements;
 mod targets;
 
 use crate::parts::{Form, Functions, Gathering, Sign, Stack, Tree, Word};
+use py_grammar::{Act, Guard, Limits};
 use py_ast::{Expression, Link, Name, Node, Statement};
-use rp_base::{BinaryOp, NoMemory, UnaryOp};
+use rp_base::{BinaryOp, NoMemory, Plain, UnaryOp};
 use sqlite_items::Items;
 use std::alloc::Global;
 
@@ -135,5 +137,91 @@ impl<'a> Building<'a> {
         ensures { IfOk result (λ _. self.new ≡ statement_tree statement line self.old) }
     {
         self.push_tree(Node::Statement(statement), line, line, Form::Value)
+    }
+
+    /// Builds what this act builds.
+    #[tactic(auto, unfolding(crate::specs::BuildingActs::acted))]
+    pub(crate) fn act(&mut self, alloc: Global, act: Act) -> Result<(), NoMemory>
+        ensures { IfOk result (λ _. self.new ≡ acted act self.old) }
+    {
+        match act {
+            Act::Nothing => Ok(()),
+            Act::Mark => self.mark(),
+            Act::Begin => self.begin_list(alloc),
+            Act::BeginWith => self.begin_with(alloc),
+            Act::Add => self.add(),
+            Act::BeginNames => self.begin_names(alloc),
+            Act::AddName => self.add_name(alloc),
+            Act::Name => self.name(alloc),
+            Act::NoName => self.no_name(),
+            Act::BeginLinks => self.begin_links(alloc),
+            Act::AddLink => self.add_link(),
+            Act::BinarySign => self.binary_sign(),
+            Act::UnarySign => self.unary_sign(),
+            Act::ComparisonSign => self.comparison_sign(),
+            Act::Negate => self.negate(),
+            Act::MakeSuite => self.suite(),
+            Act::NoSuite => self.no_suite(),
+            Act::MakeHandler => self.handler(),
+            Act::MakeIf => self.branch(),
+            Act::MakeElif => self.other_branch(),
+            Act::MakeWhile => self.loop_while(),
+            Act::MakeFor => self.loop_over(alloc),
+            Act::MakeTry => self.attempt(),
+            Act::BeginDef => self.begin_def(alloc),
+            Act::MakeDef => self.end_def(),
+            Act::MakeClass => self.class(),
+            Act::MakePass => self.pass(),
+            Act::MakeBreak => self.leave_loop(),
+            Act::MakeContinue => self.go_on(),
+            Act::MakeReturn => self.give_back(),
+            Act::MakeReturnNone => self.give_none(),
+            Act::MakeReraise => self.raise_again(),
+            Act::MakeRaiseName => self.raise_name(),
+            Act::MakeRaise => self.raise_call(),
+            Act::MakeGlobal => self.global(),
+            Act::MakeNonlocal => self.nonlocal(),
+            Act::MakeDel => self.delete(alloc),
+            Act::MakeExpression => self.alone(),
+            Act::MakeAssign => self.assign(alloc),
+            Act::MakeAugmented => self.augment(alloc),
+            Act::MakeTuple => self.tuple(),
+            Act::MakeEmptyTuple => self.empty_tuple(alloc),
+            Act::MakeWithin => self.within(),
+            Act::MakeName => self.name_tree(alloc),
+            Act::MakeNone => self.constant(Plain::None),
+            Act::MakeTrue => self.constant(Plain::Bool(true)),
+            Act::MakeFalse => self.constant(Plain::Bool(false)),
+            Act::MakeEllipsis => self.constant(Plain::Ellipsis),
+            Act::MakeInt => self.int(),
+            Act::MakeText => self.text(alloc),
+            Act::MakeBytes => self.byte_string(alloc),
+            Act::MakeAttribute => self.attribute(alloc),
+            Act::MakeItem => self.item(),
+            Act::MakeCall => self.call(),
+            Act::BeginLambda => self.begin_lambda(alloc),
+            Act::MakeLambda => self.end_lambda(),
+            Act::MakeConditional => self.conditional(),
+            Act::MakeOr => self.either(),
+            Act::MakeAnd => self.both(),
+            Act::MakeNot => self.inverse(),
+            Act::MakeCompare => self.compare(),
+            Act::MakeBinary => self.binary(),
+            Act::MakeUnary => self.unary(),
+            Act::MakeList => self.list(),
+            Act::MakeDict => self.dict(),
+        }
+    }
+
+    /// Whether a guard holds here.
+    pub(crate) fn holds(&self, limits: &Limits, guard: Guard) -> bool
+        ensures { result ≡ holds limits.now guard self.now }
+    {
+        match guard {
+            Guard::FewerArguments => self.lists.top().is_some_and(|list| list.numbers.len() < limits.arguments as usize),
+            Guard::FewerParameters => self.name_lists.top().is_some_and(|names| names.len() < limits.arguments as usize),
+            Guard::Targets => matches!(self.trees.top(), Some(Tree { form: Form::Place | Form::Places, .. })),
+            Guard::Place => matches!(self.trees.top(), Some(Tree { form: Form::Place, .. })),
+        }
     }
 }
