@@ -1,8 +1,9 @@
 -- What is built while a text is read.
-use Rattle.std.specs.Prelude.{ℕ, List, [], ◌∷◌, ◌++◌, length, Option, Some, None}
+use Rattle.std.specs.Prelude.{ℕ, ◌-◌, Bool, List, [], ◌∷◌, ◌++◌, length, Option, Some, None}
 use Rattle.py_ast.specs.declared.expression.Expression.{Expression}
 use Rattle.py_ast.specs.declared.node.Node.{Node}
 use Rattle.py_ast.specs.declared.node.Node.TheVariants as node
+use Rattle.py_ast.specs.declared.program.Program.{Program}
 use Rattle.py_ast.specs.declared.statement.Statement.{Statement}
 use Rattle.py_parser.specs.declared.parts.Form.{Form}
 use Rattle.py_parser.specs.declared.parts.Form.TheVariants as form
@@ -10,8 +11,23 @@ use Rattle.py_parser.specs.declared.builder.Building.{Building}
 
 abbrev pub begun : Building
 begun = record {
-    nodes = []; lines = []; functions = []; function = None; trees = []; lists = []; names = []; name_lists = [];
-    suites = []; marks = []; signs = []; unary_signs = []; comparisons = []; links = []; word = []; line = 1 }
+  nodes = [];
+  lines = [];
+  functions = [];
+  function = None;
+  trees = [];
+  lists = [];
+  names = [];
+  name_lists = [];
+  suites = [];
+  marks = [];
+  signs = [];
+  unary_signs = [];
+  comparisons = [];
+  links = [];
+  word = [];
+  line = 1;
+}
 
 -- the last token is kept, for names, literals, signs and lines
 abbrev pub taken_in : List ℕ → ℕ → Building → Building
@@ -20,7 +36,17 @@ taken_in text at b = record b { word = text; line = at }
 -- an act finds too little of what it asks for, which no text brings about
 abbrev pub stuck : Building → Building
 stuck b = record b {
-    trees = []; lists = []; names = []; name_lists = []; suites = []; marks = []; signs = []; unary_signs = []; comparisons = []; links = [] }
+  trees = [];
+  lists = [];
+  names = [];
+  name_lists = [];
+  suites = [];
+  marks = [];
+  signs = [];
+  unary_signs = [];
+  comparisons = [];
+  links = [];
+}
 
 -- a node goes behind the others, so its number is how many stood before it
 abbrev pub with_node : Node → ℕ → Building → Building
@@ -43,3 +69,14 @@ place_tree e at first_line b = with_tree (node.Expression e) at first_line form.
 
 abbrev pub statement_tree : Statement → ℕ → Building → Building
 statement_tree s at b = with_tree (node.Statement s) at at form.Value b
+
+-- The tree of a whole text: the node that was made last is its root.
+abbrev pub program_of : Bool → Building → Program
+program_of is_expression b = record {
+  nodes = b.nodes;
+  lines = b.lines;
+  root = length b.nodes - 1;
+  functions = b.functions;
+  handler_names = [];
+  is_expression = is_expression;
+}

@@ -12,9 +12,17 @@ use Rattle.py_parser.specs.BuildingParts.{with_body}
 -- A function begins: it has the next number, and is now the innermost.
 abbrev pub with_function : List ℕ → List Name → Building → Building
 with_function word parameters b = record b {
-    functions = b.functions ++ record {
-        name = word; parameters = parameters; locals = []; free = []; has_inner = false; parent = b.function; body = 0 } ∷ [];
-    function = Some (length b.functions) }
+  functions = b.functions ++ record {
+    name = word;
+    parameters = parameters;
+    locals = [];
+    free = [];
+    has_inner = false;
+    parent = b.function;
+    body = 0;
+  } ∷ [];
+  function = Some (length b.functions);
+}
 
 -- The function that ends gets its body, and the one around it is the innermost again.
 abbrev pub without_function : ℕ → ℕ → Option FunctionInfo → Building → Building

@@ -21,8 +21,9 @@ begin_list b = record b { lists = record { numbers = []; line = b.line; form = f
 -- a list that begins with a tree
 abbrev pub begin_with : List Tree → Building → Building
 begin_with (tree ∷ trees) b = record b {
-    trees = trees;
-    lists = record { numbers = tree.number ∷ []; line = tree.line; form = joined form.Places tree.form } ∷ b.lists }
+  trees = trees;
+  lists = record { numbers = tree.number ∷ []; line = tree.line; form = joined form.Places tree.form } ∷ b.lists;
+}
 begin_with [] b = stuck b
 
 abbrev pub with_number : Tree → Gathering → Gathering

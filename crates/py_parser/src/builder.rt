@@ -1,7 +1,6 @@
 ghost use Rattle.std.specs.Prelude.{◌≡◌, length, IfOk};
 ghost use Rattle.py_parser.specs.BuildingActs.{acted, holds};
-ghost use Rattle.py_parser.specs.Building.{begun, stuck, taken_in, with_node, with_tree, with_suite, place_tree, statement_tree, value_tree};
-
+ghost use Rattle.py_parser.specs.Building.{begun, program_of, stuck, taken_in, with_node, with_tree, with_suite, place_tree, statement_tree, value_tree};
 
 mod expressions;
 mod functions;
@@ -9,10 +8,12 @@ mod gathering;
 mod signs;
 mod statements;
 mod targets;
+#[cfg(test)]
+mod tests;
 
 use crate::parts::{Form, Functions, Gathering, Sign, Stack, Tree, Word};
+use py_ast::{Expression, Link, Name, Node, Program, Statement};
 use py_grammar::{Act, Guard, Limits};
-use py_ast::{Expression, Link, Name, Node, Statement};
 use rp_base::{BinaryOp, NoMemory, Plain, UnaryOp};
 use sqlite_items::Items;
 use std::alloc::Global;
@@ -103,7 +104,13 @@ impl<'a> Building<'a> {
     }
 
     /// Adds a node that is a tree with this line of its first token.
-    fn push_tree(&mut self, node: Node, line: u32, first_line: u32, form: Form) -> Result<(), NoMemory>
+    fn push_tree(
+        &mut self,
+        node: Node,
+        line: u32,
+        first_line: u32,
+        form: Form,
+    ) -> Result<(), NoMemory>
         ensures { IfOk result (λ _. self.new ≡ with_tree node line first_line form self.old) }
     {
         let number = self.push_node(node, line)?;
@@ -127,7 +134,12 @@ impl<'a> Building<'a> {
         self.push_tree(Node::Expression(expression), line, line, Form::Value)
     }
 
-    fn push_place(&mut self, expression: Expression, line: u32, first_line: u32) -> Result<(), NoMemory>
+    fn push_place(
+        &mut self,
+        expression: Expression,
+        line: u32,
+        first_line: u32,
+    ) -> Result<(), NoMemory>
         ensures { IfOk result (λ _. self.new ≡ place_tree expression line first_line self.old) }
     {
         self.push_tree(Node::Expression(expression), line, first_line, Form::Place)
@@ -218,10 +230,46 @@ impl<'a> Building<'a> {
         ensures { result ≡ holds limits.now guard self.now }
     {
         match guard {
-            Guard::FewerArguments => self.lists.top().is_some_and(|list| list.numbers.len() < limits.arguments as usize),
-            Guard::FewerParameters => self.name_lists.top().is_some_and(|names| names.len() < limits.arguments as usize),
-            Guard::Targets => matches!(self.trees.top(), Some(Tree { form: Form::Place | Form::Places, .. })),
-            Guard::Place => matches!(self.trees.top(), Some(Tree { form: Form::Place, .. })),
+            Guard::FewerArguments => self
+                .lists
+                .top()
+                .is_some_and(|list| list.numbers.len() < limits.arguments as usize),
+            Guard::FewerParameters => self
+                .name_lists
+                .top()
+                .is_some_and(|names| names.len() < limits.arguments as usize),
+            Guard::Targets => matches!(
+                self.trees.top(),
+                Some(Tree {
+                    form: Form::Place | Form::Places,
+                    ..
+                })
+            ),
+            Guard::Place => matches!(
+                self.trees.top(),
+                Some(Tree {
+                    form: Form::Place,
+                    ..
+                })
+            ),
         }
+    }
+
+    /// The tree of a text that was read to its end. Names are not told apart yet: no function has its own names, and no
+    /// handler's name is listed.
+    pub(crate) fn finish(self, alloc: Global, is_expression: bool) -> Result<Program, NoMemory>
+        ensures { IfOk result (λ p. p ≡ program_of is_expression self) }
+    {
+        let Ok(root) = u32::try_from(self.nodes.len().saturating_sub(1)) else {
+            return Err(NoMemory);
+        };
+        Ok(Program {
+            nodes: self.nodes,
+            lines: self.lines,
+            root,
+            functions: self.functions.into_items(),
+            handler_names: Items::new(alloc),
+            is_expression,
+        })
     }
 }

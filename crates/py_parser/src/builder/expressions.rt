@@ -93,7 +93,11 @@ impl Building<'_> {
     pub(super) fn conditional(&mut self) -> Result<(), NoMemory>
         ensures { IfOk result (λ _. self.new ≡ conditional self.old.trees self.old) }
     {
-        let (Some(otherwise), Some(test), Some(then)) = (self.trees.pop(), self.trees.pop(), self.trees.pop()) else {
+        let (Some(otherwise), Some(test), Some(then)) = (
+            self.trees.pop(),
+            self.trees.pop(),
+            self.trees.pop(),
+        ) else {
             return self.stop();
         };
         let expression = Expression::Conditional {
@@ -116,7 +120,11 @@ impl Building<'_> {
     pub(super) fn binary(&mut self) -> Result<(), NoMemory>
         ensures { IfOk result (λ _. self.new ≡ binary self.old.trees self.old.signs self.old) }
     {
-        let (Some(right), Some(left), Some(op)) = (self.trees.pop(), self.trees.pop(), self.signs.pop()) else {
+        let (Some(right), Some(left), Some(op)) = (
+            self.trees.pop(),
+            self.trees.pop(),
+            self.signs.pop(),
+        ) else {
             return self.stop();
         };
         let expression = Expression::Binary {
@@ -130,7 +138,11 @@ impl Building<'_> {
     pub(super) fn unary(&mut self) -> Result<(), NoMemory>
         ensures { IfOk result (λ _. self.new ≡ unary self.old.trees self.old.unary_signs self.old.marks self.old) }
     {
-        let (Some(operand), Some(op), Some(line)) = (self.trees.pop(), self.unary_signs.pop(), self.marks.pop()) else {
+        let (Some(operand), Some(op), Some(line)) = (
+            self.trees.pop(),
+            self.unary_signs.pop(),
+            self.marks.pop(),
+        ) else {
             return self.stop();
         };
         let expression = Expression::Unary {

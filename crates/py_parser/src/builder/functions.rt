@@ -29,7 +29,11 @@ impl Building<'_> {
     pub(super) fn end_def(&mut self) -> Result<(), NoMemory>
         ensures { IfOk result (λ _. self.new ≡ end_def self.old.function self.old.suites self.old.marks self.old) }
     {
-        let (Some(number), Some(Some(body)), Some(line)) = (self.function, self.suites.pop(), self.marks.pop()) else {
+        let (Some(number), Some(Some(body)), Some(line)) = (
+            self.function,
+            self.suites.pop(),
+            self.marks.pop(),
+        ) else {
             return self.stop();
         };
         self.end_function(number, body)?;
@@ -39,14 +43,23 @@ impl Building<'_> {
     pub(super) fn end_lambda(&mut self) -> Result<(), NoMemory>
         ensures { IfOk result (λ _. self.new ≡ end_lambda self.old.function self.old.trees self.old.marks self.old) }
     {
-        let (Some(number), Some(body), Some(line)) = (self.function, self.trees.pop(), self.marks.pop()) else {
+        let (Some(number), Some(body), Some(line)) = (
+            self.function,
+            self.trees.pop(),
+            self.marks.pop(),
+        ) else {
             return self.stop();
         };
         self.end_function(number, body.number)?;
         self.push_value(Expression::Lambda(number), line)
     }
 
-    fn begin_function(&mut self, alloc: Global, name: Text, parameters: Items<Name>) -> Result<(), NoMemory>
+    fn begin_function(
+        &mut self,
+        alloc: Global,
+        name: Text,
+        parameters: Items<Name>,
+    ) -> Result<(), NoMemory>
         ensures { IfOk result (λ _. self.new ≡ with_function name parameters self.old) }
     {
         let Ok(number) = u32::try_from(self.functions.as_slice().len()) else {

@@ -114,7 +114,11 @@ impl Building<'_> {
     pub(super) fn add_link(&mut self) -> Result<(), NoMemory>
         ensures { IfOk result (λ _. self.new ≡ add_link self.old.trees self.old.comparisons self.old.links self.old) }
     {
-        let (Some(tree), Some(sign), Some(mut links)) = (self.trees.pop(), self.comparisons.pop(), self.links.pop()) else {
+        let (Some(tree), Some(sign), Some(mut links)) = (
+            self.trees.pop(),
+            self.comparisons.pop(),
+            self.links.pop(),
+        ) else {
             return self.stop();
         };
         links.push(Link {

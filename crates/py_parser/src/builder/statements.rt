@@ -72,7 +72,11 @@ impl Building<'_> {
     pub(super) fn raise_call(&mut self) -> Result<(), NoMemory>
         ensures { IfOk result (λ _. self.new ≡ raise_call self.old.lists self.old.names self.old.marks self.old) }
     {
-        let (Some(arguments), Some(Some(name)), Some(line)) = (self.lists.pop(), self.names.pop(), self.marks.pop()) else {
+        let (Some(arguments), Some(Some(name)), Some(line)) = (
+            self.lists.pop(),
+            self.names.pop(),
+            self.marks.pop(),
+        ) else {
             return self.stop();
         };
         let statement = Statement::RaiseCall {
@@ -103,9 +107,12 @@ impl Building<'_> {
     pub(super) fn branch(&mut self) -> Result<(), NoMemory>
         ensures { IfOk result (λ _. self.new ≡ branch self.old.trees self.old.suites self.old.marks self.old) }
     {
-        let (Some(test), Some(otherwise), Some(Some(then)), Some(line)) =
-            (self.trees.pop(), self.suites.pop(), self.suites.pop(), self.marks.pop())
-        else {
+        let (Some(test), Some(otherwise), Some(Some(then)), Some(line)) = (
+            self.trees.pop(),
+            self.suites.pop(),
+            self.suites.pop(),
+            self.marks.pop(),
+        ) else {
             return self.stop();
         };
         let statement = Statement::If {
@@ -120,9 +127,12 @@ impl Building<'_> {
     pub(super) fn other_branch(&mut self) -> Result<(), NoMemory>
         ensures { IfOk result (λ _. self.new ≡ other_branch self.old.trees self.old.suites self.old.marks self.old) }
     {
-        let (Some(test), Some(otherwise), Some(Some(then)), Some(line)) =
-            (self.trees.pop(), self.suites.pop(), self.suites.pop(), self.marks.pop())
-        else {
+        let (Some(test), Some(otherwise), Some(Some(then)), Some(line)) = (
+            self.trees.pop(),
+            self.suites.pop(),
+            self.suites.pop(),
+            self.marks.pop(),
+        ) else {
             return self.stop();
         };
         let statement = Statement::If {
@@ -136,7 +146,11 @@ impl Building<'_> {
     pub(super) fn loop_while(&mut self) -> Result<(), NoMemory>
         ensures { IfOk result (λ _. self.new ≡ loop_while self.old.trees self.old.suites self.old.marks self.old) }
     {
-        let (Some(test), Some(Some(body)), Some(line)) = (self.trees.pop(), self.suites.pop(), self.marks.pop()) else {
+        let (Some(test), Some(Some(body)), Some(line)) = (
+            self.trees.pop(),
+            self.suites.pop(),
+            self.marks.pop(),
+        ) else {
             return self.stop();
         };
         let statement = Statement::While {
@@ -150,9 +164,12 @@ impl Building<'_> {
     pub(super) fn attempt(&mut self) -> Result<(), NoMemory>
         ensures { IfOk result (λ _. self.new ≡ attempt self.old.lists self.old.suites self.old.marks self.old) }
     {
-        let (Some(handlers), Some(finally), Some(Some(body)), Some(line)) =
-            (self.lists.pop(), self.suites.pop(), self.suites.pop(), self.marks.pop())
-        else {
+        let (Some(handlers), Some(finally), Some(Some(body)), Some(line)) = (
+            self.lists.pop(),
+            self.suites.pop(),
+            self.suites.pop(),
+            self.marks.pop(),
+        ) else {
             return self.stop();
         };
         let statement = Statement::Try {
@@ -166,9 +183,12 @@ impl Building<'_> {
     pub(super) fn handler(&mut self) -> Result<(), NoMemory>
         ensures { IfOk result (λ _. self.new ≡ handler self.old.name_lists self.old.names self.old.suites self.old.marks self.old) }
     {
-        let (Some(kinds), Some(name), Some(Some(body)), Some(line)) =
-            (self.name_lists.pop(), self.names.pop(), self.suites.pop(), self.marks.pop())
-        else {
+        let (Some(kinds), Some(name), Some(Some(body)), Some(line)) = (
+            self.name_lists.pop(),
+            self.names.pop(),
+            self.suites.pop(),
+            self.marks.pop(),
+        ) else {
             return self.stop();
         };
         self.push_statement(Statement::Except { kinds, name, body }, line)
@@ -177,9 +197,12 @@ impl Building<'_> {
     pub(super) fn class(&mut self) -> Result<(), NoMemory>
         ensures { IfOk result (λ _. self.new ≡ make_class self.old.names self.old.suites self.old.marks self.old) }
     {
-        let (Some(base), Some(Some(name)), Some(Some(body)), Some(line)) =
-            (self.names.pop(), self.names.pop(), self.suites.pop(), self.marks.pop())
-        else {
+        let (Some(base), Some(Some(name)), Some(Some(body)), Some(line)) = (
+            self.names.pop(),
+            self.names.pop(),
+            self.suites.pop(),
+            self.marks.pop(),
+        ) else {
             return self.stop();
         };
         self.push_statement(Statement::Class { name, base, body }, line)

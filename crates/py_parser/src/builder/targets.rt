@@ -26,7 +26,11 @@ impl Building<'_> {
     pub(super) fn augment(&mut self, alloc: Global) -> Result<(), NoMemory>
         ensures { IfOk result (λ _. self.new ≡ augment self.old.trees self.old.signs self.old) }
     {
-        let (Some(value), Some(target), Some(op)) = (self.trees.pop(), self.trees.pop(), self.signs.pop()) else {
+        let (Some(value), Some(target), Some(op)) = (
+            self.trees.pop(),
+            self.trees.pop(),
+            self.signs.pop(),
+        ) else {
             return self.stop();
         };
         self.aim(alloc, target)?;
@@ -122,8 +126,14 @@ fn place(alloc: Global, expression: &Expression) -> Result<Option<Target>, NoMem
 {
     match expression {
         Expression::Name(text) => Ok(Some(Target::Name(text.copy(alloc)?))),
-        Expression::Builtin(builtin) => Ok(Some(Target::Name(Text::from_str(alloc, builtin.text())?))),
-        Expression::Constant(Plain::NotImpl) => Ok(Some(Target::Name(Text::from_str(alloc, "NotImplemented")?))),
+        Expression::Builtin(builtin) => Ok(Some(Target::Name(Text::from_str(
+            alloc,
+            builtin.text(),
+        )?))),
+        Expression::Constant(Plain::NotImpl) => Ok(Some(Target::Name(Text::from_str(
+            alloc,
+            "NotImplemented",
+        )?))),
         Expression::Attribute { receiver, name } => Ok(Some(Target::Attribute {
             receiver: *receiver,
             name: name.copy(alloc)?,
