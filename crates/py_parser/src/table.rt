@@ -6,13 +6,23 @@ mod operators;
 mod statements;
 mod targets;
 
-use py_grammar::{Act, Guard, Symbol, Terminal, Word};
+use py_grammar::{Act, Guard, Terminal, Word};
+
+/// A part of a way.
+#[derive(Clone, Copy)]
+pub(crate) enum Part {
+    Terminal(Terminal),
+    Word(Word),
+    /// A word one level further in.
+    Inner(Word),
+    Act(Act),
+}
 
 /// A way in which a word is written.
 #[derive(Clone, Copy)]
 pub(crate) struct Row {
     pub(crate) guard: Option<Guard>,
-    pub(crate) symbols: &'static [Symbol],
+    pub(crate) symbols: &'static [Part],
 }
 
 /// What the grammar says of a word: the tokens that it begins with, its ways, and what is built where it is empty.

@@ -1,5 +1,5 @@
+use crate::table::Part::{Act as Do, Inner, Terminal as Key, Word as Sub};
 use crate::table::{Entry, Row};
-use py_grammar::Symbol::{Act as Do, Terminal as Key, Word as Sub};
 use py_grammar::{Act, Guard, Terminal, Word};
 
 pub(crate) const POSTFIX: Entry = Entry {
@@ -18,7 +18,7 @@ pub(crate) const POSTFIX: Entry = Entry {
     ],
     rows: &[Row {
         guard: None,
-        symbols: &[Sub(Word::Atom, 0), Sub(Word::PostfixTail, 0)],
+        symbols: &[Sub(Word::Atom), Sub(Word::PostfixTail)],
     }],
     empty: None,
 };
@@ -36,17 +36,17 @@ pub(crate) const POSTFIX_TAIL: Entry = Entry {
                 Key(Terminal::Dot),
                 Key(Terminal::Name),
                 Do(Act::MakeAttribute),
-                Sub(Word::PostfixTail, 0),
+                Sub(Word::PostfixTail),
             ],
         },
         Row {
             guard: None,
             symbols: &[
                 Key(Terminal::OpenBracket),
-                Sub(Word::Exprs, 1),
+                Inner(Word::Exprs),
                 Key(Terminal::CloseBracket),
                 Do(Act::MakeItem),
-                Sub(Word::PostfixTail, 0),
+                Sub(Word::PostfixTail),
             ],
         },
         Row {
@@ -54,10 +54,10 @@ pub(crate) const POSTFIX_TAIL: Entry = Entry {
             symbols: &[
                 Key(Terminal::OpenParenthesis),
                 Do(Act::Begin),
-                Sub(Word::Arguments, 1),
+                Inner(Word::Arguments),
                 Key(Terminal::CloseParenthesis),
                 Do(Act::MakeCall),
-                Sub(Word::PostfixTail, 0),
+                Sub(Word::PostfixTail),
             ],
         },
     ],
@@ -84,12 +84,8 @@ pub(crate) const ARGUMENTS: Entry = Entry {
         Terminal::OpenBrace,
     ],
     rows: &[Row {
-        guard: Some(Guard::Fewer),
-        symbols: &[
-            Sub(Word::Expr, 0),
-            Do(Act::Add),
-            Sub(Word::ArgumentsTail, 0),
-        ],
+        guard: Some(Guard::FewerArguments),
+        symbols: &[Sub(Word::Expr), Do(Act::Add), Sub(Word::ArgumentsTail)],
     }],
     empty: Some(Act::Nothing),
 };
@@ -98,7 +94,7 @@ pub(crate) const ARGUMENTS_TAIL: Entry = Entry {
     first: &[Terminal::Comma],
     rows: &[Row {
         guard: None,
-        symbols: &[Key(Terminal::Comma), Sub(Word::Arguments, 0)],
+        symbols: &[Key(Terminal::Comma), Sub(Word::Arguments)],
     }],
     empty: Some(Act::Nothing),
 };
@@ -124,7 +120,7 @@ pub(crate) const ATOM: Entry = Entry {
         },
         Row {
             guard: None,
-            symbols: &[Sub(Word::Other, 0)],
+            symbols: &[Sub(Word::Other)],
         },
     ],
     empty: None,
@@ -177,7 +173,7 @@ pub(crate) const OTHER: Entry = Entry {
             symbols: &[
                 Key(Terminal::OpenParenthesis),
                 Do(Act::Mark),
-                Sub(Word::Inside, 1),
+                Inner(Word::Inside),
                 Key(Terminal::CloseParenthesis),
                 Do(Act::MakeWithin),
             ],
@@ -187,7 +183,7 @@ pub(crate) const OTHER: Entry = Entry {
             symbols: &[
                 Key(Terminal::OpenBracket),
                 Do(Act::Begin),
-                Sub(Word::Items, 1),
+                Inner(Word::Items),
                 Key(Terminal::CloseBracket),
                 Do(Act::MakeList),
             ],
@@ -197,7 +193,7 @@ pub(crate) const OTHER: Entry = Entry {
             symbols: &[
                 Key(Terminal::OpenBrace),
                 Do(Act::Begin),
-                Sub(Word::Pairs, 1),
+                Inner(Word::Pairs),
                 Key(Terminal::CloseBrace),
                 Do(Act::MakeDict),
             ],
@@ -227,7 +223,7 @@ pub(crate) const INSIDE: Entry = Entry {
     ],
     rows: &[Row {
         guard: None,
-        symbols: &[Sub(Word::Exprs, 0)],
+        symbols: &[Sub(Word::Exprs)],
     }],
     empty: Some(Act::MakeEmptyTuple),
 };
@@ -254,12 +250,12 @@ pub(crate) const PAIRS: Entry = Entry {
     rows: &[Row {
         guard: None,
         symbols: &[
-            Sub(Word::Expr, 0),
+            Sub(Word::Expr),
             Do(Act::Add),
             Key(Terminal::Colon),
-            Sub(Word::Expr, 0),
+            Sub(Word::Expr),
             Do(Act::Add),
-            Sub(Word::PairsTail, 0),
+            Sub(Word::PairsTail),
         ],
     }],
     empty: Some(Act::Nothing),
@@ -269,7 +265,7 @@ pub(crate) const PAIRS_TAIL: Entry = Entry {
     first: &[Terminal::Comma],
     rows: &[Row {
         guard: None,
-        symbols: &[Key(Terminal::Comma), Sub(Word::Pairs, 0)],
+        symbols: &[Key(Terminal::Comma), Sub(Word::Pairs)],
     }],
     empty: Some(Act::Nothing),
 };

@@ -1,5 +1,5 @@
+use crate::table::Part::{Act as Do, Inner, Terminal as Key, Word as Sub};
 use crate::table::{Entry, Row};
-use py_grammar::Symbol::{Act as Do, Terminal as Key, Word as Sub};
 use py_grammar::{Act, Guard, Terminal, Word};
 
 pub(crate) const EXPRS: Entry = Entry {
@@ -23,7 +23,7 @@ pub(crate) const EXPRS: Entry = Entry {
     ],
     rows: &[Row {
         guard: None,
-        symbols: &[Sub(Word::Expr, 0), Sub(Word::ExprsTail, 0)],
+        symbols: &[Sub(Word::Expr), Sub(Word::ExprsTail)],
     }],
     empty: None,
 };
@@ -35,7 +35,7 @@ pub(crate) const EXPRS_TAIL: Entry = Entry {
         symbols: &[
             Key(Terminal::Comma),
             Do(Act::BeginWith),
-            Sub(Word::Items, 0),
+            Sub(Word::Items),
             Do(Act::MakeTuple),
         ],
     }],
@@ -63,7 +63,7 @@ pub(crate) const ITEMS: Entry = Entry {
     ],
     rows: &[Row {
         guard: None,
-        symbols: &[Sub(Word::Expr, 0), Do(Act::Add), Sub(Word::ItemsTail, 0)],
+        symbols: &[Sub(Word::Expr), Do(Act::Add), Sub(Word::ItemsTail)],
     }],
     empty: Some(Act::Nothing),
 };
@@ -72,7 +72,7 @@ pub(crate) const ITEMS_TAIL: Entry = Entry {
     first: &[Terminal::Comma],
     rows: &[Row {
         guard: None,
-        symbols: &[Key(Terminal::Comma), Sub(Word::Items, 0)],
+        symbols: &[Key(Terminal::Comma), Sub(Word::Items)],
     }],
     empty: Some(Act::Nothing),
 };
@@ -99,16 +99,18 @@ pub(crate) const EXPR: Entry = Entry {
     rows: &[
         Row {
             guard: None,
-            symbols: &[Sub(Word::Either, 0), Sub(Word::ExprTail, 0)],
+            symbols: &[Sub(Word::Either), Sub(Word::ExprTail)],
         },
         Row {
             guard: None,
             symbols: &[
                 Key(Terminal::Lambda),
-                Do(Act::Begin),
-                Sub(Word::LambdaNames, 0),
+                Do(Act::Mark),
+                Do(Act::BeginNames),
+                Sub(Word::LambdaNames),
+                Do(Act::BeginLambda),
                 Key(Terminal::Colon),
-                Sub(Word::Expr, 1),
+                Inner(Word::Expr),
                 Do(Act::MakeLambda),
             ],
         },
@@ -122,9 +124,9 @@ pub(crate) const EXPR_TAIL: Entry = Entry {
         guard: None,
         symbols: &[
             Key(Terminal::If),
-            Sub(Word::Either, 0),
+            Sub(Word::Either),
             Key(Terminal::Else),
-            Sub(Word::Expr, 1),
+            Inner(Word::Expr),
             Do(Act::MakeConditional),
         ],
     }],
@@ -134,12 +136,8 @@ pub(crate) const EXPR_TAIL: Entry = Entry {
 pub(crate) const LAMBDA_NAMES: Entry = Entry {
     first: &[Terminal::Name],
     rows: &[Row {
-        guard: Some(Guard::Fewer),
-        symbols: &[
-            Key(Terminal::Name),
-            Do(Act::AddName),
-            Sub(Word::LambdaTail, 0),
-        ],
+        guard: Some(Guard::FewerParameters),
+        symbols: &[Key(Terminal::Name), Do(Act::AddName), Sub(Word::LambdaTail)],
     }],
     empty: Some(Act::Nothing),
 };
@@ -147,12 +145,12 @@ pub(crate) const LAMBDA_NAMES: Entry = Entry {
 pub(crate) const LAMBDA_TAIL: Entry = Entry {
     first: &[Terminal::Comma],
     rows: &[Row {
-        guard: Some(Guard::Fewer),
+        guard: Some(Guard::FewerParameters),
         symbols: &[
             Key(Terminal::Comma),
             Key(Terminal::Name),
             Do(Act::AddName),
-            Sub(Word::LambdaTail, 0),
+            Sub(Word::LambdaTail),
         ],
     }],
     empty: Some(Act::Nothing),
@@ -178,7 +176,7 @@ pub(crate) const EITHER: Entry = Entry {
     ],
     rows: &[Row {
         guard: None,
-        symbols: &[Sub(Word::Both, 0), Sub(Word::EitherTail, 0)],
+        symbols: &[Sub(Word::Both), Sub(Word::EitherTail)],
     }],
     empty: None,
 };
@@ -190,9 +188,9 @@ pub(crate) const EITHER_TAIL: Entry = Entry {
         symbols: &[
             Key(Terminal::Or),
             Do(Act::BeginWith),
-            Sub(Word::Both, 0),
+            Sub(Word::Both),
             Do(Act::Add),
-            Sub(Word::EitherMore, 0),
+            Sub(Word::EitherMore),
             Do(Act::MakeOr),
         ],
     }],
@@ -205,9 +203,9 @@ pub(crate) const EITHER_MORE: Entry = Entry {
         guard: None,
         symbols: &[
             Key(Terminal::Or),
-            Sub(Word::Both, 0),
+            Sub(Word::Both),
             Do(Act::Add),
-            Sub(Word::EitherMore, 0),
+            Sub(Word::EitherMore),
         ],
     }],
     empty: Some(Act::Nothing),
@@ -233,7 +231,7 @@ pub(crate) const BOTH: Entry = Entry {
     ],
     rows: &[Row {
         guard: None,
-        symbols: &[Sub(Word::Inverse, 0), Sub(Word::BothTail, 0)],
+        symbols: &[Sub(Word::Inverse), Sub(Word::BothTail)],
     }],
     empty: None,
 };
@@ -245,9 +243,9 @@ pub(crate) const BOTH_TAIL: Entry = Entry {
         symbols: &[
             Key(Terminal::And),
             Do(Act::BeginWith),
-            Sub(Word::Inverse, 0),
+            Sub(Word::Inverse),
             Do(Act::Add),
-            Sub(Word::BothMore, 0),
+            Sub(Word::BothMore),
             Do(Act::MakeAnd),
         ],
     }],
@@ -260,9 +258,9 @@ pub(crate) const BOTH_MORE: Entry = Entry {
         guard: None,
         symbols: &[
             Key(Terminal::And),
-            Sub(Word::Inverse, 0),
+            Sub(Word::Inverse),
             Do(Act::Add),
-            Sub(Word::BothMore, 0),
+            Sub(Word::BothMore),
         ],
     }],
     empty: Some(Act::Nothing),
@@ -289,14 +287,14 @@ pub(crate) const INVERSE: Entry = Entry {
     rows: &[
         Row {
             guard: None,
-            symbols: &[Sub(Word::Compare, 0)],
+            symbols: &[Sub(Word::Compare)],
         },
         Row {
             guard: None,
             symbols: &[
                 Key(Terminal::Not),
                 Do(Act::Mark),
-                Sub(Word::Inverse, 1),
+                Inner(Word::Inverse),
                 Do(Act::MakeNot),
             ],
         },
@@ -323,7 +321,7 @@ pub(crate) const COMPARE: Entry = Entry {
     ],
     rows: &[Row {
         guard: None,
-        symbols: &[Sub(Word::Bits, 0), Sub(Word::CompareTail, 0)],
+        symbols: &[Sub(Word::Bits), Sub(Word::CompareTail)],
     }],
     empty: None,
 };
@@ -338,9 +336,9 @@ pub(crate) const COMPARE_TAIL: Entry = Entry {
     rows: &[Row {
         guard: None,
         symbols: &[
-            Do(Act::BeginWith),
-            Sub(Word::Link, 0),
-            Sub(Word::CompareMore, 0),
+            Do(Act::BeginLinks),
+            Sub(Word::Link),
+            Sub(Word::CompareMore),
             Do(Act::MakeCompare),
         ],
     }],
@@ -356,7 +354,7 @@ pub(crate) const COMPARE_MORE: Entry = Entry {
     ],
     rows: &[Row {
         guard: None,
-        symbols: &[Sub(Word::Link, 0), Sub(Word::CompareMore, 0)],
+        symbols: &[Sub(Word::Link), Sub(Word::CompareMore)],
     }],
     empty: Some(Act::Nothing),
 };
@@ -373,8 +371,8 @@ pub(crate) const LINK: Entry = Entry {
             guard: None,
             symbols: &[
                 Key(Terminal::Comparison),
-                Do(Act::Operator),
-                Sub(Word::Bits, 0),
+                Do(Act::ComparisonSign),
+                Sub(Word::Bits),
                 Do(Act::AddLink),
             ],
         },
@@ -382,8 +380,8 @@ pub(crate) const LINK: Entry = Entry {
             guard: None,
             symbols: &[
                 Key(Terminal::In),
-                Do(Act::Operator),
-                Sub(Word::Bits, 0),
+                Do(Act::ComparisonSign),
+                Sub(Word::Bits),
                 Do(Act::AddLink),
             ],
         },
@@ -391,9 +389,9 @@ pub(crate) const LINK: Entry = Entry {
             guard: None,
             symbols: &[
                 Key(Terminal::Not),
-                Do(Act::Operator),
+                Do(Act::ComparisonSign),
                 Key(Terminal::In),
-                Sub(Word::Bits, 0),
+                Sub(Word::Bits),
                 Do(Act::AddLink),
             ],
         },
@@ -401,8 +399,8 @@ pub(crate) const LINK: Entry = Entry {
             guard: None,
             symbols: &[
                 Key(Terminal::Is),
-                Do(Act::Operator),
-                Sub(Word::IsRight, 0),
+                Do(Act::ComparisonSign),
+                Sub(Word::IsRight),
                 Do(Act::AddLink),
             ],
         },
@@ -431,11 +429,11 @@ pub(crate) const IS_RIGHT: Entry = Entry {
     rows: &[
         Row {
             guard: None,
-            symbols: &[Sub(Word::Bits, 0)],
+            symbols: &[Sub(Word::Bits)],
         },
         Row {
             guard: None,
-            symbols: &[Key(Terminal::Not), Do(Act::Negate), Sub(Word::Bits, 0)],
+            symbols: &[Key(Terminal::Not), Do(Act::Negate), Sub(Word::Bits)],
         },
     ],
     empty: None,

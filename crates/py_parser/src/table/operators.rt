@@ -1,5 +1,5 @@
+use crate::table::Part::{Act as Do, Inner, Terminal as Key, Word as Sub};
 use crate::table::{Entry, Row};
-use py_grammar::Symbol::{Act as Do, Terminal as Key, Word as Sub};
 use py_grammar::{Act, Terminal, Word};
 
 pub(crate) const BITS: Entry = Entry {
@@ -21,7 +21,7 @@ pub(crate) const BITS: Entry = Entry {
     ],
     rows: &[Row {
         guard: None,
-        symbols: &[Sub(Word::Differences, 0), Sub(Word::BitsTail, 0)],
+        symbols: &[Sub(Word::Differences), Sub(Word::BitsTail)],
     }],
     empty: None,
 };
@@ -32,10 +32,10 @@ pub(crate) const BITS_TAIL: Entry = Entry {
         guard: None,
         symbols: &[
             Key(Terminal::Bar),
-            Do(Act::Operator),
-            Sub(Word::Differences, 0),
+            Do(Act::BinarySign),
+            Sub(Word::Differences),
             Do(Act::MakeBinary),
-            Sub(Word::BitsTail, 0),
+            Sub(Word::BitsTail),
         ],
     }],
     empty: Some(Act::Nothing),
@@ -60,7 +60,7 @@ pub(crate) const DIFFERENCES: Entry = Entry {
     ],
     rows: &[Row {
         guard: None,
-        symbols: &[Sub(Word::Commons, 0), Sub(Word::DifferencesTail, 0)],
+        symbols: &[Sub(Word::Commons), Sub(Word::DifferencesTail)],
     }],
     empty: None,
 };
@@ -71,10 +71,10 @@ pub(crate) const DIFFERENCES_TAIL: Entry = Entry {
         guard: None,
         symbols: &[
             Key(Terminal::Caret),
-            Do(Act::Operator),
-            Sub(Word::Commons, 0),
+            Do(Act::BinarySign),
+            Sub(Word::Commons),
             Do(Act::MakeBinary),
-            Sub(Word::DifferencesTail, 0),
+            Sub(Word::DifferencesTail),
         ],
     }],
     empty: Some(Act::Nothing),
@@ -99,7 +99,7 @@ pub(crate) const COMMONS: Entry = Entry {
     ],
     rows: &[Row {
         guard: None,
-        symbols: &[Sub(Word::Shifts, 0), Sub(Word::CommonsTail, 0)],
+        symbols: &[Sub(Word::Shifts), Sub(Word::CommonsTail)],
     }],
     empty: None,
 };
@@ -110,10 +110,10 @@ pub(crate) const COMMONS_TAIL: Entry = Entry {
         guard: None,
         symbols: &[
             Key(Terminal::Ampersand),
-            Do(Act::Operator),
-            Sub(Word::Shifts, 0),
+            Do(Act::BinarySign),
+            Sub(Word::Shifts),
             Do(Act::MakeBinary),
-            Sub(Word::CommonsTail, 0),
+            Sub(Word::CommonsTail),
         ],
     }],
     empty: Some(Act::Nothing),
@@ -138,7 +138,7 @@ pub(crate) const SHIFTS: Entry = Entry {
     ],
     rows: &[Row {
         guard: None,
-        symbols: &[Sub(Word::Sums, 0), Sub(Word::ShiftsTail, 0)],
+        symbols: &[Sub(Word::Sums), Sub(Word::ShiftsTail)],
     }],
     empty: None,
 };
@@ -149,10 +149,10 @@ pub(crate) const SHIFTS_TAIL: Entry = Entry {
         guard: None,
         symbols: &[
             Key(Terminal::Shift),
-            Do(Act::Operator),
-            Sub(Word::Sums, 0),
+            Do(Act::BinarySign),
+            Sub(Word::Sums),
             Do(Act::MakeBinary),
-            Sub(Word::ShiftsTail, 0),
+            Sub(Word::ShiftsTail),
         ],
     }],
     empty: Some(Act::Nothing),
@@ -177,7 +177,7 @@ pub(crate) const SUMS: Entry = Entry {
     ],
     rows: &[Row {
         guard: None,
-        symbols: &[Sub(Word::Products, 0), Sub(Word::SumsTail, 0)],
+        symbols: &[Sub(Word::Products), Sub(Word::SumsTail)],
     }],
     empty: None,
 };
@@ -189,20 +189,20 @@ pub(crate) const SUMS_TAIL: Entry = Entry {
             guard: None,
             symbols: &[
                 Key(Terminal::Plus),
-                Do(Act::Operator),
-                Sub(Word::Products, 0),
+                Do(Act::BinarySign),
+                Sub(Word::Products),
                 Do(Act::MakeBinary),
-                Sub(Word::SumsTail, 0),
+                Sub(Word::SumsTail),
             ],
         },
         Row {
             guard: None,
             symbols: &[
                 Key(Terminal::Minus),
-                Do(Act::Operator),
-                Sub(Word::Products, 0),
+                Do(Act::BinarySign),
+                Sub(Word::Products),
                 Do(Act::MakeBinary),
-                Sub(Word::SumsTail, 0),
+                Sub(Word::SumsTail),
             ],
         },
     ],
@@ -228,7 +228,7 @@ pub(crate) const PRODUCTS: Entry = Entry {
     ],
     rows: &[Row {
         guard: None,
-        symbols: &[Sub(Word::Unary, 0), Sub(Word::ProductsTail, 0)],
+        symbols: &[Sub(Word::Unary), Sub(Word::ProductsTail)],
     }],
     empty: None,
 };
@@ -240,20 +240,20 @@ pub(crate) const PRODUCTS_TAIL: Entry = Entry {
             guard: None,
             symbols: &[
                 Key(Terminal::Star),
-                Do(Act::Operator),
-                Sub(Word::Unary, 0),
+                Do(Act::BinarySign),
+                Sub(Word::Unary),
                 Do(Act::MakeBinary),
-                Sub(Word::ProductsTail, 0),
+                Sub(Word::ProductsTail),
             ],
         },
         Row {
             guard: None,
             symbols: &[
                 Key(Terminal::Divide),
-                Do(Act::Operator),
-                Sub(Word::Unary, 0),
+                Do(Act::BinarySign),
+                Sub(Word::Unary),
                 Do(Act::MakeBinary),
-                Sub(Word::ProductsTail, 0),
+                Sub(Word::ProductsTail),
             ],
         },
     ],
@@ -280,14 +280,14 @@ pub(crate) const UNARY: Entry = Entry {
     rows: &[
         Row {
             guard: None,
-            symbols: &[Sub(Word::Power, 0)],
+            symbols: &[Sub(Word::Power)],
         },
         Row {
             guard: None,
             symbols: &[
                 Key(Terminal::Minus),
-                Do(Act::Operator),
-                Sub(Word::Unary, 1),
+                Do(Act::UnarySign),
+                Inner(Word::Unary),
                 Do(Act::MakeUnary),
             ],
         },
@@ -295,8 +295,8 @@ pub(crate) const UNARY: Entry = Entry {
             guard: None,
             symbols: &[
                 Key(Terminal::Plus),
-                Do(Act::Operator),
-                Sub(Word::Unary, 1),
+                Do(Act::UnarySign),
+                Inner(Word::Unary),
                 Do(Act::MakeUnary),
             ],
         },
@@ -304,8 +304,8 @@ pub(crate) const UNARY: Entry = Entry {
             guard: None,
             symbols: &[
                 Key(Terminal::Tilde),
-                Do(Act::Operator),
-                Sub(Word::Unary, 1),
+                Do(Act::UnarySign),
+                Inner(Word::Unary),
                 Do(Act::MakeUnary),
             ],
         },
@@ -329,7 +329,7 @@ pub(crate) const POWER: Entry = Entry {
     ],
     rows: &[Row {
         guard: None,
-        symbols: &[Sub(Word::Postfix, 0), Sub(Word::PowerTail, 0)],
+        symbols: &[Sub(Word::Postfix), Sub(Word::PowerTail)],
     }],
     empty: None,
 };
@@ -340,8 +340,8 @@ pub(crate) const POWER_TAIL: Entry = Entry {
         guard: None,
         symbols: &[
             Key(Terminal::DoubleStar),
-            Do(Act::Operator),
-            Sub(Word::Unary, 1),
+            Do(Act::BinarySign),
+            Inner(Word::Unary),
             Do(Act::MakeBinary),
         ],
     }],

@@ -1,5 +1,5 @@
+use crate::table::Part::{Act as Do, Inner, Terminal as Key, Word as Sub};
 use crate::table::{Entry, Row};
-use py_grammar::Symbol::{Act as Do, Terminal as Key, Word as Sub};
 use py_grammar::{Act, Guard, Terminal, Word};
 
 pub(crate) const STATEMENTS: Entry = Entry {
@@ -37,11 +37,7 @@ pub(crate) const STATEMENTS: Entry = Entry {
     ],
     rows: &[Row {
         guard: None,
-        symbols: &[
-            Sub(Word::Statement, 0),
-            Do(Act::Add),
-            Sub(Word::Statements, 0),
-        ],
+        symbols: &[Sub(Word::Statement), Do(Act::Add), Sub(Word::Statements)],
     }],
     empty: Some(Act::Nothing),
 };
@@ -82,17 +78,17 @@ pub(crate) const STATEMENT: Entry = Entry {
     rows: &[
         Row {
             guard: None,
-            symbols: &[Sub(Word::Simple, 0), Key(Terminal::Newline)],
+            symbols: &[Sub(Word::Simple), Key(Terminal::Newline)],
         },
         Row {
             guard: None,
             symbols: &[
                 Key(Terminal::If),
                 Do(Act::Mark),
-                Sub(Word::Expr, 0),
+                Sub(Word::Expr),
                 Key(Terminal::Colon),
-                Sub(Word::Suite, 1),
-                Sub(Word::IfTail, 0),
+                Inner(Word::Suite),
+                Sub(Word::IfTail),
                 Do(Act::MakeIf),
             ],
         },
@@ -101,9 +97,9 @@ pub(crate) const STATEMENT: Entry = Entry {
             symbols: &[
                 Key(Terminal::While),
                 Do(Act::Mark),
-                Sub(Word::Expr, 0),
+                Sub(Word::Expr),
                 Key(Terminal::Colon),
-                Sub(Word::Suite, 1),
+                Inner(Word::Suite),
                 Do(Act::MakeWhile),
             ],
         },
@@ -112,11 +108,11 @@ pub(crate) const STATEMENT: Entry = Entry {
             symbols: &[
                 Key(Terminal::For),
                 Do(Act::Mark),
-                Sub(Word::Targets, 0),
+                Sub(Word::Targets),
                 Key(Terminal::In),
-                Sub(Word::Exprs, 0),
+                Sub(Word::Exprs),
                 Key(Terminal::Colon),
-                Sub(Word::Suite, 1),
+                Inner(Word::Suite),
                 Do(Act::MakeFor),
             ],
         },
@@ -126,9 +122,9 @@ pub(crate) const STATEMENT: Entry = Entry {
                 Key(Terminal::Try),
                 Do(Act::Mark),
                 Key(Terminal::Colon),
-                Sub(Word::Suite, 1),
+                Inner(Word::Suite),
                 Do(Act::Begin),
-                Sub(Word::TryTail, 1),
+                Inner(Word::TryTail),
                 Do(Act::MakeTry),
             ],
         },
@@ -140,11 +136,12 @@ pub(crate) const STATEMENT: Entry = Entry {
                 Key(Terminal::Name),
                 Do(Act::Name),
                 Key(Terminal::OpenParenthesis),
-                Do(Act::Begin),
-                Sub(Word::Parameters, 0),
+                Do(Act::BeginNames),
+                Sub(Word::Parameters),
                 Key(Terminal::CloseParenthesis),
+                Do(Act::BeginDef),
                 Key(Terminal::Colon),
-                Sub(Word::Suite, 1),
+                Inner(Word::Suite),
                 Do(Act::MakeDef),
             ],
         },
@@ -155,9 +152,9 @@ pub(crate) const STATEMENT: Entry = Entry {
                 Do(Act::Mark),
                 Key(Terminal::Name),
                 Do(Act::Name),
-                Sub(Word::Base, 0),
+                Sub(Word::Base),
                 Key(Terminal::Colon),
-                Sub(Word::Suite, 1),
+                Inner(Word::Suite),
                 Do(Act::MakeClass),
             ],
         },
@@ -173,10 +170,10 @@ pub(crate) const IF_TAIL: Entry = Entry {
             symbols: &[
                 Key(Terminal::Elif),
                 Do(Act::Mark),
-                Sub(Word::Expr, 0),
+                Sub(Word::Expr),
                 Key(Terminal::Colon),
-                Sub(Word::Suite, 1),
-                Sub(Word::IfTail, 0),
+                Inner(Word::Suite),
+                Sub(Word::IfTail),
                 Do(Act::MakeElif),
             ],
         },
@@ -185,11 +182,11 @@ pub(crate) const IF_TAIL: Entry = Entry {
             symbols: &[
                 Key(Terminal::Else),
                 Key(Terminal::Colon),
-                Sub(Word::Suite, 1),
+                Inner(Word::Suite),
             ],
         },
     ],
-    empty: Some(Act::Begin),
+    empty: Some(Act::NoSuite),
 };
 
 pub(crate) const TRY_TAIL: Entry = Entry {
@@ -197,14 +194,14 @@ pub(crate) const TRY_TAIL: Entry = Entry {
     rows: &[
         Row {
             guard: None,
-            symbols: &[Sub(Word::Final, 0)],
+            symbols: &[Sub(Word::Final)],
         },
         Row {
             guard: None,
             symbols: &[
-                Sub(Word::Handler, 0),
-                Sub(Word::HandlersTail, 0),
-                Sub(Word::FinalTail, 0),
+                Sub(Word::Handler),
+                Sub(Word::HandlersTail),
+                Sub(Word::FinalTail),
             ],
         },
     ],
@@ -217,11 +214,13 @@ pub(crate) const HANDLER: Entry = Entry {
         guard: None,
         symbols: &[
             Key(Terminal::Except),
-            Do(Act::Begin),
-            Sub(Word::Caught, 0),
+            Do(Act::Mark),
+            Do(Act::BeginNames),
+            Sub(Word::Caught),
             Key(Terminal::Colon),
-            Sub(Word::Suite, 0),
-            Do(Act::AddHandler),
+            Sub(Word::Suite),
+            Do(Act::MakeHandler),
+            Do(Act::Add),
         ],
     }],
     empty: None,
@@ -231,7 +230,7 @@ pub(crate) const HANDLERS_TAIL: Entry = Entry {
     first: &[Terminal::Except],
     rows: &[Row {
         guard: None,
-        symbols: &[Sub(Word::Handler, 0), Sub(Word::HandlersTail, 0)],
+        symbols: &[Sub(Word::Handler), Sub(Word::HandlersTail)],
     }],
     empty: Some(Act::Nothing),
 };
@@ -241,7 +240,7 @@ pub(crate) const CAUGHT: Entry = Entry {
     rows: &[
         Row {
             guard: None,
-            symbols: &[Key(Terminal::Name), Do(Act::AddName), Sub(Word::AsName, 0)],
+            symbols: &[Key(Terminal::Name), Do(Act::AddName), Sub(Word::AsName)],
         },
         Row {
             guard: None,
@@ -249,9 +248,9 @@ pub(crate) const CAUGHT: Entry = Entry {
                 Key(Terminal::OpenParenthesis),
                 Key(Terminal::Name),
                 Do(Act::AddName),
-                Sub(Word::NamesTail, 0),
+                Sub(Word::NamesTail),
                 Key(Terminal::CloseParenthesis),
-                Sub(Word::AsName, 0),
+                Sub(Word::AsName),
             ],
         },
     ],
@@ -274,7 +273,7 @@ pub(crate) const FINAL: Entry = Entry {
         symbols: &[
             Key(Terminal::Finally),
             Key(Terminal::Colon),
-            Sub(Word::Suite, 0),
+            Sub(Word::Suite),
         ],
     }],
     empty: None,
@@ -284,7 +283,7 @@ pub(crate) const FINAL_TAIL: Entry = Entry {
     first: &[Terminal::Finally],
     rows: &[Row {
         guard: None,
-        symbols: &[Sub(Word::Final, 0)],
+        symbols: &[Sub(Word::Final)],
     }],
     empty: Some(Act::NoSuite),
 };
@@ -292,11 +291,11 @@ pub(crate) const FINAL_TAIL: Entry = Entry {
 pub(crate) const PARAMETERS: Entry = Entry {
     first: &[Terminal::Name],
     rows: &[Row {
-        guard: Some(Guard::Fewer),
+        guard: Some(Guard::FewerParameters),
         symbols: &[
             Key(Terminal::Name),
             Do(Act::AddName),
-            Sub(Word::ParametersTail, 0),
+            Sub(Word::ParametersTail),
         ],
     }],
     empty: Some(Act::Nothing),
@@ -306,7 +305,7 @@ pub(crate) const PARAMETERS_TAIL: Entry = Entry {
     first: &[Terminal::Comma],
     rows: &[Row {
         guard: None,
-        symbols: &[Key(Terminal::Comma), Sub(Word::Parameters, 0)],
+        symbols: &[Key(Terminal::Comma), Sub(Word::Parameters)],
     }],
     empty: Some(Act::Nothing),
 };
@@ -358,9 +357,10 @@ pub(crate) const SUITE: Entry = Entry {
             guard: None,
             symbols: &[
                 Do(Act::Begin),
-                Sub(Word::Simple, 0),
+                Sub(Word::Simple),
                 Do(Act::Add),
                 Key(Terminal::Newline),
+                Do(Act::MakeSuite),
             ],
         },
         Row {
@@ -369,10 +369,11 @@ pub(crate) const SUITE: Entry = Entry {
                 Key(Terminal::Newline),
                 Do(Act::Begin),
                 Key(Terminal::Indent),
-                Sub(Word::Statement, 0),
+                Sub(Word::Statement),
                 Do(Act::Add),
-                Sub(Word::Statements, 0),
+                Sub(Word::Statements),
                 Key(Terminal::Dedent),
+                Do(Act::MakeSuite),
             ],
         },
     ],
@@ -421,24 +422,21 @@ pub(crate) const SIMPLE: Entry = Entry {
         },
         Row {
             guard: None,
-            symbols: &[
-                Key(Terminal::Return),
-                Do(Act::Mark),
-                Sub(Word::ReturnTail, 0),
-            ],
+            symbols: &[Key(Terminal::Return), Do(Act::Mark), Sub(Word::ReturnTail)],
         },
         Row {
             guard: None,
-            symbols: &[Key(Terminal::Raise), Do(Act::Mark), Sub(Word::RaiseTail, 0)],
+            symbols: &[Key(Terminal::Raise), Do(Act::Mark), Sub(Word::RaiseTail)],
         },
         Row {
             guard: None,
             symbols: &[
                 Key(Terminal::Global),
-                Do(Act::Begin),
+                Do(Act::Mark),
+                Do(Act::BeginNames),
                 Key(Terminal::Name),
                 Do(Act::AddName),
-                Sub(Word::NamesTail, 0),
+                Sub(Word::NamesTail),
                 Do(Act::MakeGlobal),
             ],
         },
@@ -446,10 +444,11 @@ pub(crate) const SIMPLE: Entry = Entry {
             guard: None,
             symbols: &[
                 Key(Terminal::Nonlocal),
-                Do(Act::Begin),
+                Do(Act::Mark),
+                Do(Act::BeginNames),
                 Key(Terminal::Name),
                 Do(Act::AddName),
-                Sub(Word::NamesTail, 0),
+                Sub(Word::NamesTail),
                 Do(Act::MakeNonlocal),
             ],
         },
@@ -458,13 +457,13 @@ pub(crate) const SIMPLE: Entry = Entry {
             symbols: &[
                 Key(Terminal::Del),
                 Do(Act::Mark),
-                Sub(Word::Place, 0),
+                Sub(Word::Place),
                 Do(Act::MakeDel),
             ],
         },
         Row {
             guard: None,
-            symbols: &[Sub(Word::Exprs, 0), Sub(Word::SimpleTail, 0)],
+            symbols: &[Sub(Word::Exprs), Sub(Word::SimpleTail)],
         },
     ],
     empty: None,
@@ -475,18 +474,14 @@ pub(crate) const SIMPLE_TAIL: Entry = Entry {
     rows: &[
         Row {
             guard: Some(Guard::Targets),
-            symbols: &[
-                Key(Terminal::Assign),
-                Sub(Word::Exprs, 0),
-                Do(Act::MakeAssign),
-            ],
+            symbols: &[Key(Terminal::Assign), Sub(Word::Exprs), Do(Act::MakeAssign)],
         },
         Row {
             guard: Some(Guard::Place),
             symbols: &[
                 Key(Terminal::Augmented),
-                Do(Act::Operator),
-                Sub(Word::Exprs, 0),
+                Do(Act::BinarySign),
+                Sub(Word::Exprs),
                 Do(Act::MakeAugmented),
             ],
         },
@@ -515,7 +510,7 @@ pub(crate) const RETURN_TAIL: Entry = Entry {
     ],
     rows: &[Row {
         guard: None,
-        symbols: &[Sub(Word::Exprs, 0), Do(Act::MakeReturn)],
+        symbols: &[Sub(Word::Exprs), Do(Act::MakeReturn)],
     }],
     empty: Some(Act::MakeReturnNone),
 };
@@ -527,7 +522,7 @@ pub(crate) const RAISE_TAIL: Entry = Entry {
         symbols: &[
             Key(Terminal::Name),
             Do(Act::Name),
-            Sub(Word::RaiseArguments, 0),
+            Sub(Word::RaiseArguments),
         ],
     }],
     empty: Some(Act::MakeReraise),
@@ -540,7 +535,7 @@ pub(crate) const RAISE_ARGUMENTS: Entry = Entry {
         symbols: &[
             Key(Terminal::OpenParenthesis),
             Do(Act::Begin),
-            Sub(Word::Arguments, 1),
+            Inner(Word::Arguments),
             Key(Terminal::CloseParenthesis),
             Do(Act::MakeRaise),
         ],
@@ -556,7 +551,7 @@ pub(crate) const NAMES_TAIL: Entry = Entry {
             Key(Terminal::Comma),
             Key(Terminal::Name),
             Do(Act::AddName),
-            Sub(Word::NamesTail, 0),
+            Sub(Word::NamesTail),
         ],
     }],
     empty: Some(Act::Nothing),

@@ -1,5 +1,5 @@
+use crate::table::Part::{Act as Do, Inner, Terminal as Key, Word as Sub};
 use crate::table::{Entry, Row};
-use py_grammar::Symbol::{Act as Do, Terminal as Key, Word as Sub};
 use py_grammar::{Act, Terminal, Word};
 
 pub(crate) const TARGETS: Entry = Entry {
@@ -18,7 +18,7 @@ pub(crate) const TARGETS: Entry = Entry {
     ],
     rows: &[Row {
         guard: None,
-        symbols: &[Sub(Word::Target, 0), Sub(Word::TargetsTail, 0)],
+        symbols: &[Sub(Word::Target), Sub(Word::TargetsTail)],
     }],
     empty: None,
 };
@@ -30,7 +30,7 @@ pub(crate) const TARGETS_TAIL: Entry = Entry {
         symbols: &[
             Key(Terminal::Comma),
             Do(Act::BeginWith),
-            Sub(Word::TargetItems, 0),
+            Sub(Word::TargetItems),
             Do(Act::MakeTuple),
         ],
     }],
@@ -53,11 +53,7 @@ pub(crate) const TARGET_ITEMS: Entry = Entry {
     ],
     rows: &[Row {
         guard: None,
-        symbols: &[
-            Sub(Word::Target, 0),
-            Do(Act::Add),
-            Sub(Word::TargetItemsTail, 0),
-        ],
+        symbols: &[Sub(Word::Target), Do(Act::Add), Sub(Word::TargetItemsTail)],
     }],
     empty: Some(Act::Nothing),
 };
@@ -66,7 +62,7 @@ pub(crate) const TARGET_ITEMS_TAIL: Entry = Entry {
     first: &[Terminal::Comma],
     rows: &[Row {
         guard: None,
-        symbols: &[Key(Terminal::Comma), Sub(Word::TargetItems, 0)],
+        symbols: &[Key(Terminal::Comma), Sub(Word::TargetItems)],
     }],
     empty: Some(Act::Nothing),
 };
@@ -91,12 +87,12 @@ pub(crate) const TARGET: Entry = Entry {
             symbols: &[
                 Key(Terminal::Name),
                 Do(Act::MakeName),
-                Sub(Word::TargetTail, 0),
+                Sub(Word::TargetTail),
             ],
         },
         Row {
             guard: None,
-            symbols: &[Sub(Word::Other, 0), Sub(Word::PlaceTail, 0)],
+            symbols: &[Sub(Word::Other), Sub(Word::PlaceTail)],
         },
     ],
     empty: None,
@@ -115,17 +111,17 @@ pub(crate) const TARGET_TAIL: Entry = Entry {
                 Key(Terminal::Dot),
                 Key(Terminal::Name),
                 Do(Act::MakeAttribute),
-                Sub(Word::TargetTail, 0),
+                Sub(Word::TargetTail),
             ],
         },
         Row {
             guard: None,
             symbols: &[
                 Key(Terminal::OpenBracket),
-                Sub(Word::Exprs, 1),
+                Inner(Word::Exprs),
                 Key(Terminal::CloseBracket),
                 Do(Act::MakeItem),
-                Sub(Word::TargetTail, 0),
+                Sub(Word::TargetTail),
             ],
         },
         Row {
@@ -133,10 +129,10 @@ pub(crate) const TARGET_TAIL: Entry = Entry {
             symbols: &[
                 Key(Terminal::OpenParenthesis),
                 Do(Act::Begin),
-                Sub(Word::Arguments, 1),
+                Inner(Word::Arguments),
                 Key(Terminal::CloseParenthesis),
                 Do(Act::MakeCall),
-                Sub(Word::PlaceTail, 0),
+                Sub(Word::PlaceTail),
             ],
         },
     ],
@@ -159,7 +155,7 @@ pub(crate) const PLACE: Entry = Entry {
     ],
     rows: &[Row {
         guard: None,
-        symbols: &[Sub(Word::Atom, 0), Sub(Word::PlaceTail, 0)],
+        symbols: &[Sub(Word::Atom), Sub(Word::PlaceTail)],
     }],
     empty: None,
 };
@@ -177,17 +173,17 @@ pub(crate) const PLACE_TAIL: Entry = Entry {
                 Key(Terminal::Dot),
                 Key(Terminal::Name),
                 Do(Act::MakeAttribute),
-                Sub(Word::TargetTail, 0),
+                Sub(Word::TargetTail),
             ],
         },
         Row {
             guard: None,
             symbols: &[
                 Key(Terminal::OpenBracket),
-                Sub(Word::Exprs, 1),
+                Inner(Word::Exprs),
                 Key(Terminal::CloseBracket),
                 Do(Act::MakeItem),
-                Sub(Word::TargetTail, 0),
+                Sub(Word::TargetTail),
             ],
         },
         Row {
@@ -195,10 +191,10 @@ pub(crate) const PLACE_TAIL: Entry = Entry {
             symbols: &[
                 Key(Terminal::OpenParenthesis),
                 Do(Act::Begin),
-                Sub(Word::Arguments, 1),
+                Inner(Word::Arguments),
                 Key(Terminal::CloseParenthesis),
                 Do(Act::MakeCall),
-                Sub(Word::PlaceTail, 0),
+                Sub(Word::PlaceTail),
             ],
         },
     ],
