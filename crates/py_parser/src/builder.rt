@@ -258,7 +258,7 @@ impl<'a> Building<'a> {
     /// The tree of a text that was read to its end. Names are not told apart yet: no function has its own names, and no
     /// handler's name is listed.
     pub(crate) fn finish(self, alloc: Global, is_expression: bool) -> Result<Program, NoMemory>
-        ensures { IfOk result (λ p. p ≡ program_of is_expression self) }
+        ensures { IfOk result (λ p. p ≡ program_of is_expression self.entry) }
     {
         let Ok(root) = u32::try_from(self.nodes.len().saturating_sub(1)) else {
             return Err(NoMemory);

@@ -1,0 +1,136 @@
+-- What acts keep: the parts of each node have smaller numbers than the node, and whatever waits has numbers of nodes.
+use Rattle.std.proofs.Common.{◌≡◌, ◌<◌, ◌≤◌, ◌+◌, ◌-◌, ℕ, suc, zero, List, [], ◌∷◌, ◌++◌, length, slice_get, slice_set, Option, None, Some, refl, subst, sym, ap, ◌∙◌, arith, Bool, true, false}
+use Rattle.std.specs.Prelude.{map, codes}
+use Rattle.std.specs.Option.{option_to_list}
+use Rattle.py_ast.specs.declared.expression.Expression.{Expression}
+use Rattle.py_ast.specs.declared.expression.Expression.TheVariants as expression
+use Rattle.py_ast.specs.declared.expression.Link.{Link}
+use Rattle.py_ast.specs.declared.name.Name.{Name}
+use Rattle.py_ast.specs.declared.node.Node.{Node}
+use Rattle.py_ast.specs.declared.node.Node.TheVariants as node
+use Rattle.py_ast.specs.declared.program.FunctionInfo.{FunctionInfo}
+use Rattle.py_ast.specs.declared.statement.Statement.{Statement}
+use Rattle.py_ast.specs.declared.statement.Statement.TheVariants as statement
+use Rattle.py_ast.specs.declared.target.Target.{Target}
+use Rattle.py_ast.specs.declared.target.Target.TheVariants as target
+use Rattle.py_ast.specs.Parts.{Each, PartsComeFirst, parts_of}
+use Rattle.rp_base.specs.declared.plain.Plain.TheVariants as plain
+use Rattle.py_parser.specs.declared.builder.Building.{Building}
+use Rattle.py_parser.specs.declared.parts.Form.{Form}
+use Rattle.py_parser.specs.declared.parts.Gathering.{Gathering}
+use Rattle.py_parser.specs.declared.parts.Tree.{Tree}
+use Rattle.py_parser.specs.Building.{stuck, with_node, with_tree, with_suite}
+
+pub each_mono : {A : Type 0} (P Q : A → Type 0) → ((x : A) → P x → Q x) → (xs : List A) → Each P xs → Each Q xs
+each_mono P Q f [] h = tt
+each_mono P Q f (x ∷ xs) h = (f x h.0, each_mono P Q f xs h.1)
+
+pub each_append : {A : Type 0} (P : A → Type 0) → (xs ys : List A) → Each P xs → Each P ys → Each P (xs ++ ys)
+each_append P [] ys h k = k
+each_append P (x ∷ xs) ys h k = (h.0, each_append P xs ys h.1 k)
+
+pub each_map : {A B : Type 0} (P : B → Type 0) (f : A → B) → (xs : List A) → Each (λ x. P (f x)) xs → Each P (map f xs)
+each_map P f [] h = tt
+each_map P f (x ∷ xs) h = (h.0, each_map P f xs h.1)
+
+pub each_up : (m n : ℕ) → m ≤ n → (xs : List ℕ) → Each (λ p. p < m) xs → Each (λ p. p < n) xs
+each_up m n l = each_mono (λ p. p < m) (λ p. p < n) (λ p s. omega (arith, l, s))
+
+-- from the i-th node on
+abbrev pub Ordered : ℕ → List Node → Type 0
+Ordered i [] = Unit {0}
+Ordered i (n ∷ ns) = Each (λ part. part < i) (parts_of n) × Ordered (suc i) ns
+
+pub ordered_push : (i : ℕ) (ns : List Node) (n : Node) → Ordered i ns → Each (λ part. part < i + length ns) (parts_of n) → Ordered i (ns ++ n ∷ [])
+ordered_push i [] n h k = (each_up (i + 0) i (omega arith) (parts_of n) k, tt)
+ordered_push i (m ∷ ns) n h k = (h.0, ordered_push (suc i) ns n h.1 (each_up (i + suc (length ns)) (suc i + length ns) (omega arith) (parts_of n) k))
+
+-- a node in the place of another with the same parts
+pub ordered_set : (i : ℕ) (ns : List Node) (k : ℕ) (old new : Node) → slice_get ns k ≡ Some old → parts_of new ≡ parts_of old → Ordered i ns → Ordered i (slice_set ns k new)
+ordered_set i [] k old new e s h = tt
+ordered_set i (m ∷ ns) zero old new e s h = let same : parts_of m ≡ parts_of new = cc in (subst (Each (λ part. part < i)) same h.0, h.1)
+ordered_set i (m ∷ ns) (suc k) old new e s h = (h.0, ordered_set (suc i) ns k old new e s h.1)
+
+pub parts_come_first : (i : ℕ) (ns : List Node) → Ordered i ns → (k : ℕ) (n : Node) → slice_get ns k ≡ Some n → Each (λ part. part < i + k) (parts_of n)
+parts_come_first i [] h k n e = cc
+parts_come_first i (m ∷ ns) h zero n e = let same : parts_of m ≡ parts_of n = cc in each_up i (i + 0) (omega arith) (parts_of n) (subst (Each (λ part. part < i)) same h.0)
+parts_come_first i (m ∷ ns) h (suc k) n e = each_up (suc i + k) (i + suc k) (omega arith) (parts_of n) (parts_come_first (suc i) ns h.1 k n e)
+
+pub record Waits (nodes : List Node) (lines : List ℕ) (trees : List Tree) (lists : List Gathering) (suites : List (Option ℕ)) (links : List (List Link)) : Type 0 where
+  pub ordered : Ordered 0 nodes
+  pub lined : length lines ≡ length nodes
+  pub trees_in : Each (λ t. t.number < length nodes) trees
+  pub lists_in : Each (λ l. Each (λ n. n < length nodes) l.numbers) lists
+  pub suites_in : Each (λ s. Each (λ n. n < length nodes) (option_to_list s)) suites
+  pub links_in : Each (λ ls. Each (λ l. l.right < length nodes) ls) links
+
+abbrev pub Sound : Building → Type 0
+Sound b = Waits b.nodes b.lines b.trees b.lists b.suites b.links
+
+abbrev pub In : Building → ℕ → Type 0
+In b number = number < length b.nodes
+
+abbrev pub TreesIn : Building → List Tree → Type 0
+TreesIn b ts = Each (λ t. t.number < length b.nodes) ts
+
+abbrev pub ListsIn : Building → List Gathering → Type 0
+ListsIn b ls = Each (λ l. Each (λ n. n < length b.nodes) l.numbers) ls
+
+abbrev pub SuitesIn : Building → List (Option ℕ) → Type 0
+SuitesIn b ss = Each (λ s. Each (λ n. n < length b.nodes) (option_to_list s)) ss
+
+abbrev pub LinksIn : Building → List (List Link) → Type 0
+LinksIn b ks = Each (λ ls. Each (λ l. l.right < length b.nodes) ls) ks
+
+-- with other stacks
+pub again : (b : Building) (ts : List Tree) (ls : List Gathering) (ss : List (Option ℕ)) (ks : List (List Link))
+    → Sound b → TreesIn b ts → ListsIn b ls → SuitesIn b ss → LinksIn b ks → Waits b.nodes b.lines ts ls ss ks
+again b ts ls ss ks k t l s x = record { ordered = k.ordered; lined = k.lined; trees_in = t; lists_in = l; suites_in = s; links_in = x }
+
+pub with_trees : (b : Building) (ts : List Tree) → Sound b → TreesIn b ts → Waits b.nodes b.lines ts b.lists b.suites b.links
+with_trees b ts k t = again b ts b.lists b.suites b.links k t k.lists_in k.suites_in k.links_in
+
+pub with_lists : (b : Building) (ls : List Gathering) → Sound b → ListsIn b ls → Waits b.nodes b.lines b.trees ls b.suites b.links
+with_lists b ls k l = again b b.trees ls b.suites b.links k k.trees_in l k.suites_in k.links_in
+
+pub with_suites : (b : Building) (ss : List (Option ℕ)) → Sound b → SuitesIn b ss → Waits b.nodes b.lines b.trees b.lists ss b.links
+with_suites b ss k s = again b b.trees b.lists ss b.links k k.trees_in k.lists_in s k.links_in
+
+pub with_links : (b : Building) (ks : List (List Link)) → Sound b → LinksIn b ks → Waits b.nodes b.lines b.trees b.lists b.suites ks
+with_links b ks k x = again b b.trees b.lists b.suites ks k k.trees_in k.lists_in k.suites_in x
+
+pub stuck_keeps : (b : Building) → Sound b → Sound (stuck b)
+stuck_keeps b k = again b [] [] [] [] k tt tt tt tt
+
+one_longer : {A : Type 0} (xs : List A) (x : A) → length (xs ++ x ∷ []) ≡ suc (length xs)
+one_longer [] x = refl
+one_longer (y ∷ xs) x = ap suc (one_longer xs x)
+
+-- among more nodes
+wider : (ns ms : List Node) (ls : List ℕ) (b : Building) → length b.nodes ≤ length ms → Ordered 0 ms → length ls ≡ length ms → Sound b
+    → Waits ms ls b.trees b.lists b.suites b.links
+wider ns ms ls b up o e k = record {
+    ordered = o; lined = e;
+    trees_in = each_mono (λ t. t.number < length b.nodes) (λ t. t.number < length ms) (λ t l. less t.number l) b.trees k.trees_in;
+    lists_in = each_mono (λ l. Each (λ n. n < length b.nodes) l.numbers) (λ l. Each (λ n. n < length ms) l.numbers) (λ l h. less_each l.numbers h) b.lists k.lists_in;
+    suites_in = each_mono (λ s. Each (λ n. n < length b.nodes) (option_to_list s)) (λ s. Each (λ n. n < length ms) (option_to_list s)) (λ s h. less_each (option_to_list s) h) b.suites k.suites_in;
+    links_in = each_mono (λ ls. Each (λ l. l.right < length b.nodes) ls) (λ ls. Each (λ l. l.right < length ms) ls)
+        (λ ls h. each_mono (λ l. l.right < length b.nodes) (λ l. l.right < length ms) (λ l s. less l.right s) ls h) b.links k.links_in }
+  where
+    less : (n : ℕ) → n < length b.nodes → n < length ms
+    less n s = omega (arith, up, s)
+    less_each : (xs : List ℕ) → Each (λ n. n < length b.nodes) xs → Each (λ n. n < length ms) xs
+    less_each xs = each_up (length b.nodes) (length ms) up xs
+
+pub node_keeps : (n : Node) (at : ℕ) (b : Building) → Sound b → Each (In b) (parts_of n) → Sound (with_node n at b)
+node_keeps n at b k h = wider b.nodes (b.nodes ++ n ∷ []) (b.lines ++ at ∷ []) b (omega (arith, one_longer b.nodes n))
+    (ordered_push 0 b.nodes n k.ordered (each_up (length b.nodes) (0 + length b.nodes) (omega arith) (parts_of n) h))
+    (one_longer b.lines at ∙ (ap suc k.lined ∙ sym (one_longer b.nodes n))) k
+
+pub tree_keeps : (n : Node) (at first_line : ℕ) (f : Form) (b : Building) → Sound b → Each (In b) (parts_of n) → Sound (with_tree n at first_line f b)
+tree_keeps n at first_line f b k h = let s : Sound (with_node n at b) = node_keeps n at b k h in
+    with_trees (with_node n at b) (record { number = length b.nodes; line = first_line; form = f } ∷ b.trees) s (omega (arith, one_longer b.nodes n), s.trees_in)
+
+pub suite_keeps : (s : Statement) (at : ℕ) (b : Building) → Sound b → Each (In b) (parts_of (node.Statement s)) → Sound (with_suite s at b)
+suite_keeps t at b k h = let s : Sound (with_node (node.Statement t) at b) = node_keeps (node.Statement t) at b k h in
+    with_suites (with_node (node.Statement t) at b) (Some (length b.nodes) ∷ b.suites) s ((omega (arith, one_longer b.nodes (node.Statement t)), tt), s.suites_in)
