@@ -56,6 +56,12 @@ parts_come_first i [] h k n e = cc
 parts_come_first i (m ∷ ns) h zero n e = let same : parts_of m ≡ parts_of n = cc in each_up i (i + 0) (omega arith) (parts_of n) (subst (Each (λ part. part < i)) same h.0)
 parts_come_first i (m ∷ ns) h (suc k) n e = each_up (suc i + k) (i + suc k) (omega arith) (parts_of n) (parts_come_first (suc i) ns h.1 k n e)
 
+-- any node in the place of another, if its parts stand before it
+pub ordered_put : (i : ℕ) (ns : List Node) (k : ℕ) (new : Node) → Ordered i ns → Each (λ part. part < i + k) (parts_of new) → Ordered i (slice_set ns k new)
+ordered_put i [] k new h e = tt
+ordered_put i (m ∷ ns) zero new h e = (each_up (i + 0) i (omega arith) (parts_of new) e, h.1)
+ordered_put i (m ∷ ns) (suc k) new h e = (h.0, ordered_put (suc i) ns k new h.1 (each_up (i + suc k) (suc i + k) (omega arith) (parts_of new) e))
+
 pub record Waits (nodes : List Node) (lines : List ℕ) (trees : List Tree) (lists : List Gathering) (suites : List (Option ℕ)) (links : List (List Link)) : Type 0 where
   pub ordered : Ordered 0 nodes
   pub lined : length lines ≡ length nodes
@@ -107,9 +113,9 @@ one_longer [] x = refl
 one_longer (y ∷ xs) x = ap suc (one_longer xs x)
 
 -- among more nodes
-wider : (ns ms : List Node) (ls : List ℕ) (b : Building) → length b.nodes ≤ length ms → Ordered 0 ms → length ls ≡ length ms → Sound b
+pub wider : (ms : List Node) (ls : List ℕ) (b : Building) → length b.nodes ≤ length ms → Ordered 0 ms → length ls ≡ length ms → Sound b
     → Waits ms ls b.trees b.lists b.suites b.links
-wider ns ms ls b up o e k = record {
+wider ms ls b up o e k = record {
     ordered = o; lined = e;
     trees_in = each_mono (λ t. t.number < length b.nodes) (λ t. t.number < length ms) (λ t l. less t.number l) b.trees k.trees_in;
     lists_in = each_mono (λ l. Each (λ n. n < length b.nodes) l.numbers) (λ l. Each (λ n. n < length ms) l.numbers) (λ l h. less_each l.numbers h) b.lists k.lists_in;
@@ -123,7 +129,7 @@ wider ns ms ls b up o e k = record {
     less_each xs = each_up (length b.nodes) (length ms) up xs
 
 pub node_keeps : (n : Node) (at : ℕ) (b : Building) → Sound b → Each (In b) (parts_of n) → Sound (with_node n at b)
-node_keeps n at b k h = wider b.nodes (b.nodes ++ n ∷ []) (b.lines ++ at ∷ []) b (omega (arith, one_longer b.nodes n))
+node_keeps n at b k h = wider (b.nodes ++ n ∷ []) (b.lines ++ at ∷ []) b (omega (arith, one_longer b.nodes n))
     (ordered_push 0 b.nodes n k.ordered (each_up (length b.nodes) (0 + length b.nodes) (omega arith) (parts_of n) h))
     (one_longer b.lines at ∙ (ap suc k.lined ∙ sym (one_longer b.nodes n))) k
 
