@@ -1,0 +1,3 @@
+pub mod Computing
+pub mod Printing
+pub mod PrintingLaws
