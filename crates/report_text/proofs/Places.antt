@@ -1,15 +1,13 @@
 -- Where the fault of a frame stands, and which bytes stand behind a whole one.
-use Rattle.std.proofs.Common.{◌≡◌, ℕ, suc, ◌+◌, ◌-◌, ◌<◌, ◌≤◌, Bool, true, false, eqb, ltb, List, [], ◌∷◌, length, get_or, take, drop, refl, sym, ap, ◌∙◌, subst, arith, Option, Some, None, Result, Ok, Err}
+use Rattle.std.proofs.Common.{◌≡◌, ℕ, ◌+◌, ◌<◌, Bool, true, false, eqb, ltb, List, [], ◌∷◌, length, get_or, take, drop, refl, sym, ap, ◌∙◌, arith, Err}
 use Rattle.std.specs.Int.{w32, from_be_bytes}
 use Rattle.std.proofs.lemmas.Bool.{ltb-true}
 use Rattle.std.proofs.lemmas.List.{length-take, drop-drop}
 use Rattle.channel_frames.specs.Frames.{front, Reads, answer_of, Front, Whole, Part, Faulty, Fault, TooLong, Compressed, BadFlag, BadFlusher}
 use Rattle.channel_frames.proofs.Judging.{chosen, front-short, front-judged}
 use Rattle.channel_frames.specs.declared.fault.FrameFault.{FrameFault}
-use Rattle.channel_frames.specs.declared.fault.FrameFault.TheVariants as frame_fault
 use Rattle.report_text.specs.Dumping.{fault_at, frame_kind}
 use Rattle.report_text.specs.Stepping.{Takes, shown, told_length}
-use Rattle.report_text.specs.declared.judging.FrameEnd.{FrameEnd}
 use Rattle.report_text.specs.declared.judging.FrameEnd.TheVariants as frame_end
 
 -- ---- the place of a fault

@@ -1,6 +1,6 @@
 -- One frame of a stream: what it adds to the text, and the first fault.
-use Rattle.std.proofs.Common.{◌≡◌, ℕ, ◌+◌, ◌-◌, ◌<◌, ◌≤◌, ◌^◌, List, [], ◌∷◌, ◌++◌, length, drop, map, refl, sym, ap, ◌∙◌, subst, append_assoc, append-nil, arith, Option, Some, None, Result, Ok, Err, length-drop}
-use Rattle.std.specs.Result.{result_map_both}
+use Rattle.std.proofs.Common.{false, ◌≡◌, ℕ, ◌+◌, ◌-◌, ◌≤◌, List, [], ◌∷◌, ◌++◌, length, drop, map, refl, sym, ap, ◌∙◌, subst, append_assoc, append-nil, arith, Option, Some, None, Result, Ok, Err, length-drop}
+use Rattle.std.specs.Result.{result_map_both, is_err, OnOk}
 use Rattle.rp_base.specs.declared.plain.Plain.{Plain}
 use Rattle.brine_codec.specs.Reading.{Read, decoded, value_at, whole_value, placed}
 use Rattle.brine_codec.specs.Reading as reading
@@ -24,7 +24,7 @@ use Rattle.channel_frames.specs.Frames.{front, Whole, Part}
 use Rattle.channel_frames.specs.Streams.{Frames, Rest, behind, frames, frames_from}
 use Rattle.channel_frames.proofs.Dividing.{frames-whole, frames-part, frames-faulty}
 use Rattle.channel_frames.proofs.Judging.{front-length}
-use Rattle.report_text.specs.Dumping.{dump_fault, ending_fault, fault_at, fault_in, first_fault, judge, lines_of, message_at, message_kind, messages_in, messages_of}
+use Rattle.report_text.specs.Dumping.{dump_fault, dump_text, fault_text, ending_fault, fault_at, fault_in, first_fault, judge, lines_of, message_at, message_kind, messages_in, messages_of}
 use Rattle.report_text.specs.MessageLines.{line, message_text}
 use Rattle.report_text.specs.Stepping.{Answers, Prints, Takes, brine_ended, message_ended, checked_end}
 use Rattle.report_text.specs.declared.judging.FrameEnd.{FrameEnd}
@@ -170,3 +170,34 @@ ended_at_end bytes old text start waiting r u e is = rw is (by_rest (drop start 
         ended_by bytes old text start waiting (fault_at (peer.F5 (length (b ∷ rest))) (start + length (b ∷ rest))) u
         (ap (λ (x : Frames). messages_in x) (frames-part start waiting e))
         (ap (λ (x : Frames). fault_in x) (frames-part start waiting e) ∙ ap (λ (s : List ℕ). fault_in ([], Rest start s)) w)
+
+-- ---- what the calls answered
+
+pub on_fine : {T E : Type 0} (r : Result T E) (P : Type 0) → is_err r ≡ false → OnOk r P → P
+on_fine (Ok x) P fine p = p
+on_fine (Err e) P fine p = absurd cc
+
+pub took : {X : Type 0} (view : X → List ℕ) (at : ℕ) (s : List ℕ) (o : Option X) (x : X) (new : List ℕ) → o ≡ Some x → Takes view at s (Ok o) new → front s ≡ Whole (view x) new
+took {X} view at s o x new is takes = let F : Option X → Type 0 = λ k. Takes view at s (Ok k) new in subst F is takes
+
+pub took_none : {X : Type 0} (view : X → List ℕ) (at : ℕ) (s : List ℕ) (o : Option X) (new : List ℕ) → ((x : X) → o ≡ Some x → ⊥) → Takes view at s (Ok o) new → front s ≡ Part
+took_none view at s None new apart takes = takes
+took_none view at s (Some x) new apart takes = absurd (apart x refl)
+
+-- a frame that was taken is inside the stream
+pub frame_within : (bytes old text : List ℕ) (start : ℕ) (waiting body rest : List ℕ) → Upto bytes old text start waiting → front waiting ≡ Whole body rest → start + (length body + 6) ≤ length bytes
+frame_within bytes old text start waiting body rest u e =
+    let long : length waiting ≡ length body + 6 + length rest = front-length waiting body rest e in
+    let size : length waiting ≡ length bytes - start = ap (λ (s : List ℕ). length s) u.waits ∙ length-drop start bytes in
+    let low : start ≤ length bytes = u.within in
+    omega arith
+
+pub whole_dump : (bytes old text out : List ℕ) (fault : Option PeerFault) → old ≡ [] → text ≡ old ++ lines_of (messages_in (frames bytes)) → dump_fault bytes ≡ fault → out ≡ text ++ fault_text fault
+    → (out ≡ dump_text bytes) × (fault ≡ dump_fault bytes)
+unfolding dump_text
+whole_dump bytes old text out fault e t f o =
+    let lines : text ≡ lines_of (messages_in (frames bytes)) = t ∙ ap (λ (s : List ℕ). s ++ lines_of (messages_in (frames bytes))) e in
+    (o ∙ (λ i. lines i ++ fault_text (sym f i)), sym f)
+
+pub prints_fault : (bytes old text : List ℕ) (e : FrameEnd) (f : PeerFault) → e ≡ frame_end.Fault f → Prints bytes (Err e) old text → (text ≡ old ++ lines_of (messages_in (frames bytes))) × (dump_fault bytes ≡ Some f)
+prints_fault bytes old text e f is prints = let F : FrameEnd → Type 0 = λ x. Prints bytes (Err x) old text in subst F is prints

@@ -1,5 +1,5 @@
 -- What a stream of frames is printed as: the messages in front of the first fault, and that fault.
-use Rattle.std.specs.Prelude.{◌≡◌, ℕ, ◌+◌, List, [], ◌∷◌, ◌++◌, length, map, flat_map, codes, decimal, Option, Some, None, Result, Ok, Err}
+use Rattle.std.specs.Prelude.{ℕ, ◌+◌, List, [], ◌∷◌, ◌++◌, length, map, flat_map, codes, decimal, Option, Some, None, Result, Ok, Err}
 use Rattle.std.specs.Result.{result_map_both}
 use Rattle.rp_base.specs.declared.plain.Plain.{Plain}
 use Rattle.channel_frames.specs.Frames.{Fault, TooLong, Compressed, BadFlag, BadFlusher}

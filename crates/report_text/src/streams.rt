@@ -39,9 +39,10 @@ fn push_lines(alloc: Global, bytes: &[u8], text: &mut String) -> Result<(), Fram
     }
     let mut start = 0;
     'frames: while let Some(body) = next_body(alloc, bytes, start, &mut deframer)? {
-        let message = judge_frame(alloc, start, body.as_slice())?;
+        let data = body.as_slice();
+        let message = judge_frame(alloc, start, data)?;
         push_line(&message, text)?;
-        start += HEADER + body.len() + 1;
+        start += HEADER + data.len() + 1;
     }
     check_end(start, bytes)
 }
