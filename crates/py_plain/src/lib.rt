@@ -1,8 +1,17 @@
-//! Python's operations on plain values: unary and binary operators, comparison, truth, `repr` and `str`.
+//! Python's operations on plain values: operators, comparison, truth, `repr` and `str`.
 #![tactic(auto)]
 
+mod binary;
+mod copies;
 mod ends;
-mod printing;
+mod order;
+mod repr;
+mod truth;
+mod unary;
 
+pub use binary::plain_binary;
 pub use ends::PlainEnd;
-pub use printing::{plain_repr, plain_str};
+pub use order::plain_compare;
+pub use repr::{plain_repr, plain_str};
+pub use truth::plain_truth;
+pub use unary::plain_unary;
