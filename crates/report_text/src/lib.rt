@@ -5,6 +5,8 @@ mod dumped;
 mod judging;
 mod lines;
 mod streams;
+#[cfg(test)]
+mod tests;
 
 pub use dumped::Dump;
 pub use lines::message_line;
