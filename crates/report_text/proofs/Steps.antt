@@ -99,15 +99,18 @@ begun bytes old waiting e = record {
 }
 
 -- a frame that is a message
+pub more_messages : (at : ℕ) (s body rest : List ℕ) (m : Message) → front s ≡ Whole body rest → judge (at, body) ≡ Ok m → messages_in (frames_from at s) ≡ m ∷ messages_in (frames_from (behind at body) rest)
+more_messages at s body rest m e j =
+    let later = frames_from (behind at body) rest in
+    ap (λ (x : Frames). messages_in x) (frames-whole at s body rest e)
+    ∙ ap (λ (r : Result Message PeerFault). messages_of (r ∷ map judge later.0)) j
+
 more_lines : (at : ℕ) (s body rest : List ℕ) (m : Message) → front s ≡ Whole body rest → judge (at, body) ≡ Ok m
     → lines_of (messages_in (frames_from at s)) ≡ line (message_text m) ++ lines_of (messages_in (frames_from (behind at body) rest))
 more_lines at s body rest m e j =
-    let later = frames_from (behind at body) rest in
-    ap (λ (x : Frames). lines_of (messages_in x)) (frames-whole at s body rest e)
-    ∙ ap (λ (r : Result Message PeerFault). lines_of (messages_of (r ∷ map judge later.0))) j
-    ∙ flat_map-cons (λ m. line (message_text m)) m (messages_in later)
+    ap (λ (ms : List Message). lines_of ms) (more_messages at s body rest m e j) ∙ flat_map-cons (λ m. line (message_text m)) m (messages_in (frames_from (behind at body) rest))
 
-more_fault : (at : ℕ) (s body rest : List ℕ) (m : Message) → front s ≡ Whole body rest → judge (at, body) ≡ Ok m → fault_in (frames_from at s) ≡ fault_in (frames_from (behind at body) rest)
+pub more_fault : (at : ℕ) (s body rest : List ℕ) (m : Message) → front s ≡ Whole body rest → judge (at, body) ≡ Ok m → fault_in (frames_from at s) ≡ fault_in (frames_from (behind at body) rest)
 more_fault at s body rest m e j =
     let later = frames_from (behind at body) rest in
     ap (λ (x : Frames). fault_in x) (frames-whole at s body rest e)
@@ -140,14 +143,24 @@ ended_by : (bytes old text : List ℕ) (start : ℕ) (waiting : List ℕ) (f : P
 ended_by bytes old text start waiting f u none some =
     (sym (u.lines ∙ ap (λ (ms : List Message). text ++ lines_of ms) none ∙ append-nil text), u.fault ∙ some)
 
+-- a frame that shows a fault
+pub no_messages : (at : ℕ) (s body rest : List ℕ) (f : PeerFault) → front s ≡ Whole body rest → judge (at, body) ≡ Err f → messages_in (frames_from at s) ≡ []
+no_messages at s body rest f e j =
+    let later = frames_from (behind at body) rest in
+    ap (λ (x : Frames). messages_in x) (frames-whole at s body rest e)
+    ∙ ap (λ (r : Result Message PeerFault). messages_of (r ∷ map judge later.0)) j
+
+pub shown_fault : (at : ℕ) (s body rest : List ℕ) (f : PeerFault) → front s ≡ Whole body rest → judge (at, body) ≡ Err f → fault_in (frames_from at s) ≡ Some f
+shown_fault at s body rest f e j =
+    let later = frames_from (behind at body) rest in
+    ap (λ (x : Frames). fault_in x) (frames-whole at s body rest e)
+    ∙ ap (λ (r : Result Message PeerFault). first_fault (r ∷ map judge later.0) (ending_fault later.1)) j
+
 pub ended_in_frame : (bytes old text : List ℕ) (start : ℕ) (waiting body rest : List ℕ) (e : FrameEnd) → Upto bytes old text start waiting → front waiting ≡ Whole body rest
     → Answers {X = Message} (Err e) (judge (start, body)) → Prints bytes (Err e) old text
 ended_in_frame bytes old text start waiting body rest frame_end.NoMemory u w j = tt
 ended_in_frame bytes old text start waiting body rest (frame_end.Fault f) u w j =
-    let later = frames_from (behind start body) rest in
-    ended_by bytes old text start waiting f u
-    (ap (λ (x : Frames). messages_in x) (frames-whole start waiting body rest w) ∙ ap (λ (r : Result Message PeerFault). messages_of (r ∷ map judge later.0)) j)
-    (ap (λ (x : Frames). fault_in x) (frames-whole start waiting body rest w) ∙ ap (λ (r : Result Message PeerFault). first_fault (r ∷ map judge later.0) (ending_fault later.1)) j)
+    ended_by bytes old text start waiting f u (no_messages start waiting body rest f w j) (shown_fault start waiting body rest f w j)
 
 pub ended_by_frame : {X : Type 0} (view : X → List ℕ) (bytes old text : List ℕ) (start : ℕ) (waiting new : List ℕ) (e : FrameEnd) → Upto bytes old text start waiting
     → Takes view start waiting (Err e) new → Prints bytes (Err e) old text

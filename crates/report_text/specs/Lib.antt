@@ -1,3 +1,4 @@
+pub mod Contents
 pub mod Dumping
 pub mod MessageLines
 pub mod Stepping

@@ -3,11 +3,13 @@
 
 mod dumped;
 mod judging;
+mod laws;
 mod lines;
 mod streams;
 #[cfg(test)]
 mod tests;
 
 pub use dumped::Dump;
+pub use laws::{frames_are_judged, messages_are_printed, streams_are_messages};
 pub use lines::message_line;
 pub use streams::dump;
