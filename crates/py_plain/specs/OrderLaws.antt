@@ -1,5 +1,5 @@
 -- What the order gives at two tuples.
-use Rattle.std.proofs.Common.{◌≡◌, List, [], ◌∷◌, map, Bool, true, false, Option, Ordering, refl, ◌∙◌, ap, if◌then◌else◌}
+use Rattle.std.proofs.Common.{◌≡◌, List, [], ◌∷◌, map, Option, Ordering, refl, ◌∙◌, ap, if◌then◌else◌}
 use Rattle.rp_base.specs.declared.plain.Plain.{Plain}
 use Rattle.rp_base.specs.declared.plain.Plain.TheOpen.{Plain-F}
 use Rattle.rp_base.specs.declared.plain.Plain.TheVariants as plain

@@ -1,5 +1,5 @@
 -- What the code keeps while it prints.
-use Rattle.std.specs.Prelude.{◌≡◌, ℕ, ◌+◌, ◌<◌, ◌≤◌, List, ◌++◌, length, take, Result, Ok, Err}
+use Rattle.std.specs.Prelude.{◌≡◌, ℕ, ◌+◌, ◌<◌, ◌≤◌, List, [], ◌++◌, ◌==◌, codes, if◌then◌else◌, length, take, Result, Ok, Err}
 use Rattle.std.specs.Bool.{⊤}
 use Rattle.rp_base.specs.declared.exceptions.Beyond.TheVariants as beyond
 use Rattle.py_strs.specs.declared.ends.StrEnd.{StrEnd}
@@ -18,3 +18,7 @@ Puts most text old new _ = ⊥
 abbrev pub end_of_text : StrEnd → PlainEnd
 end_of_text str_end.NoMemory = end.NoMemory
 end_of_text _ = end.Beyond beyond.Size
+
+-- what stands in front of item i of a tuple
+abbrev pub separator : ℕ → List ℕ
+separator i = if i == 0 then [] else codes ", "

@@ -6,6 +6,8 @@ mod copies;
 mod ends;
 mod order;
 mod repr;
+#[cfg(test)]
+mod tests;
 mod truth;
 mod unary;
 

@@ -3,7 +3,7 @@ ghost use Rattle.std.specs.Fmt.{signed_decimal};
 ghost use Rattle.py_strs.specs.Joining.{joined};
 ghost use Rattle.py_strs.specs.Quoting.{text_repr, bytes_repr};
 ghost use Rattle.py_plain.specs.Printing.{PrintsWithin, repr_of, str_of, tuple_repr};
-ghost use Rattle.py_plain.specs.Putting.{Puts, end_of_text};
+ghost use Rattle.py_plain.specs.Putting.{Puts, separator, end_of_text};
 
 use crate::ends::PlainEnd;
 use itoa::Buffer;
@@ -74,20 +74,20 @@ fn put_items(items: &[Plain], most: u64, out: &mut String) -> Result<(), PlainEn
     requires { length (string_bytes out.old) ≤ most }
     ensures { Puts most (joined (codes ", ") (map repr_of items.now)) (string_bytes out.old) (string_bytes out.new) result }
 {
-    let [first, others @ ..] = items else {
-        return Ok(());
-    };
-    put(first, most, out)?;
-    for item in others {
-        put_next(item, most, out)?;
+    for i in 0..items.len() {
+        put_item(i, &items[i], most, out)?;
     }
     Ok(())
 }
 
+/// Item i of a tuple: behind `, `, unless it is the first.
 #[cycle(printing)]
-fn put_next(item: &Plain, most: u64, out: &mut String) -> Result<(), PlainEnd>
-    ensures { Puts most (codes ", " ++ repr_of item.now) (string_bytes out.old) (string_bytes out.new) result }
+fn put_item(i: usize, item: &Plain, most: u64, out: &mut String) -> Result<(), PlainEnd>
+    ensures { Puts most (separator i ++ repr_of item.now) (string_bytes out.old) (string_bytes out.new) result }
 {
+    if i == 0 {
+        return put(item, most, out);
+    }
     put_str(", ", most, out)?;
     put(item, most, out)
 }
