@@ -1,3 +1,4 @@
+pub mod Computing
 pub mod Contents
 pub mod Dumping
 pub mod MessageLines
