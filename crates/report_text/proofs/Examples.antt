@@ -1,5 +1,7 @@
 -- Worked streams. Bytes, texts and places are from the format, by hand.
-use Rattle.std.proofs.Common.{◌≡◌, [], ◌∷◌, List, ℕ, ◌++◌, refl, pos, negsuc, None, Some, codes}
+use Rattle.std.proofs.Common.{◌≡◌, [], length, map, ◌∷◌, List, ℕ, ◌++◌, refl, pos, negsuc, None, Some, codes}
+use Rattle.std.specs.List.{concat}
+use Rattle.ucd_category.proofs.Computing.{ucd_category}
 use Rattle.rp_base.specs.declared.handlers.Handler.TheVariants as handler
 use Rattle.rp_base.specs.declared.plain.Plain.TheVariants as plain
 use Rattle.message_core.specs.declared.message.Message.TheVariants as message
@@ -41,6 +43,38 @@ reply_text = refl
 pub request_text : message_text (message.Request 3 handler.Inspect (plain.Tuple (plain.None ∷ []))) ≡ codes "request 3 INSPECT (None,)"
 unfolding dump_computing
 request_text = refl
+
+-- a conversation: its frames' data, and its lines
+abbrev framed : List ℕ → List ℕ
+framed body = 0 ∷ 0 ∷ 0 ∷ length body ∷ 0 ∷ body ++ 10 ∷ []
+
+abbrev service : List ℕ
+service = 0x12 ∷ 8 ∷ 0x0e ∷ 0x1e ∷ codes "rpyc.core.service.SlaveService" ++ 0x50 ∷ 0x52 ∷ []
+
+abbrev dict : List ℕ
+dict = 0x12 ∷ 8 ∷ 0x0e ∷ 0x0d ∷ codes "builtins.dict" ++ 0x50 ∷ 0x51 ∷ []
+
+abbrev conversation : List (List ℕ)
+conversation =
+    (0x12 ∷ 0x51 ∷ 0x50 ∷ 0x11 ∷ 0x53 ∷ 0x11 ∷ 0x51 ∷ 2 ∷ []) ∷
+    (0x12 ∷ 0x52 ∷ 0x50 ∷ 0x11 ∷ 0x54 ∷ service) ∷
+    (0x12 ∷ 0x51 ∷ 0x51 ∷ 0x11 ∷ 0x54 ∷ 0x11 ∷ 0x52 ∷ 0x11 ∷ 0x11 ∷ 0x53 ∷ service ++ 0x11 ∷ 0x51 ∷ 8 ∷ 0x0e ∷ 9 ∷ codes "namespace") ∷
+    (0x12 ∷ 0x52 ∷ 0x51 ∷ 0x11 ∷ 0x54 ∷ dict) ∷
+    (0x12 ∷ 0x51 ∷ 0x52 ∷ 0x11 ∷ 0x58 ∷ 0x11 ∷ 0x52 ∷ 0x13 ∷ 0x11 ∷ 0x53 ∷ dict ++ 0x11 ∷ 0x51 ∷ 8 ∷ 0x0e ∷ 0x0b ∷ codes "__getitem__" ++ 0x11 ∷ 0x51 ∷ 0x10 ∷ 8 ∷ 10 ∷ 0x78 ∷ 0x11 ∷ 0x51 ∷ 2 ∷ []) ∷
+    (0x12 ∷ 0x52 ∷ 0x52 ∷ 0x11 ∷ 0x51 ∷ 0x55 ∷ []) ∷
+    (0x12 ∷ 0x51 ∷ 0x53 ∷ 0x11 ∷ 0x52 ∷ 0x11 ∷ 0x51 ∷ 2 ∷ []) ∷
+    []
+
+pub seven_lines : dump_text (concat (map framed conversation))
+    ≡ codes "request 0 GETROOT (1, ())\n"
+    ++ codes "reply 0 (4, ('rpyc.core.service.SlaveService', 0, 2))\n"
+    ++ codes "request 1 GETATTR (2, ((3, ('rpyc.core.service.SlaveService', 0, 2)), (1, 'namespace')))\n"
+    ++ codes "reply 1 (4, ('builtins.dict', 0, 1))\n"
+    ++ codes "request 2 CALLATTR (2, ((3, ('builtins.dict', 0, 1)), (1, '__getitem__'), (1, ('x',)), (1, ())))\n"
+    ++ codes "reply 2 (1, 5)\n"
+    ++ codes "request 3 CLOSE (1, ())\n"
+unfolding ucd_category dump_computing
+seven_lines = refl
 
 -- ---- faults of frames
 
