@@ -26,7 +26,7 @@ use Rattle.channel_frames.proofs.Dividing.{frames-whole, frames-part, frames-fau
 use Rattle.channel_frames.proofs.Judging.{front-length}
 use Rattle.report_text.specs.Dumping.{dump_fault, dump_text, fault_text, ending_fault, fault_at, fault_in, first_fault, judge, lines_of, message_at, message_kind, messages_in, messages_of}
 use Rattle.report_text.specs.MessageLines.{line, message_text}
-use Rattle.report_text.specs.Stepping.{Answers, Prints, Takes, brine_ended, message_ended, checked_end}
+use Rattle.report_text.specs.Stepping.{Adds, Answers, Prints, Takes, brine_ended, message_ended, checked_end}
 use Rattle.report_text.specs.declared.judging.FrameEnd.{FrameEnd}
 use Rattle.report_text.proofs.Places.{rest_behind}
 
@@ -156,11 +156,12 @@ shown_fault at s body rest f e j =
     ap (λ (x : Frames). fault_in x) (frames-whole at s body rest e)
     ∙ ap (λ (r : Result Message PeerFault). first_fault (r ∷ map judge later.0) (ending_fault later.1)) j
 
-pub ended_in_frame : (bytes old text : List ℕ) (start : ℕ) (waiting body rest : List ℕ) (e : FrameEnd) → Upto bytes old text start waiting → front waiting ≡ Whole body rest
-    → Answers {X = Message} (Err e) (judge (start, body)) → Prints bytes (Err e) old text
-ended_in_frame bytes old text start waiting body rest frame_end.NoMemory u w j = tt
-ended_in_frame bytes old text start waiting body rest (frame_end.Fault f) u w j =
-    ended_by bytes old text start waiting f u (no_messages start waiting body rest f w j) (shown_fault start waiting body rest f w j)
+pub ended_in_frame : (bytes old text new : List ℕ) (start : ℕ) (waiting body rest : List ℕ) (e : FrameEnd) → Upto bytes old text start waiting → front waiting ≡ Whole body rest
+    → Adds (judge (start, body)) (Err e) text new → Prints bytes (Err e) old new
+ended_in_frame bytes old text new start waiting body rest frame_end.NoMemory u w added = tt
+ended_in_frame bytes old text new start waiting body rest (frame_end.Fault f) u w added =
+    subst (λ (t : List ℕ). Prints bytes (Err (frame_end.Fault f)) old t) (sym added.1)
+    (ended_by bytes old text start waiting f u (no_messages start waiting body rest f w added.0) (shown_fault start waiting body rest f w added.0))
 
 pub ended_by_frame : {X : Type 0} (view : X → List ℕ) (bytes old text : List ℕ) (start : ℕ) (waiting new : List ℕ) (e : FrameEnd) → Upto bytes old text start waiting
     → Takes view start waiting (Err e) new → Prints bytes (Err e) old text

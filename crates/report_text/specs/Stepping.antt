@@ -7,12 +7,14 @@ use Rattle.channel_frames.specs.declared.fault.FrameFault.{FrameFault}
 use Rattle.channel_frames.specs.declared.fault.FrameFault.TheVariants as frame_fault
 use Rattle.brine_codec.specs.declared.ends.DecodeEnd.{DecodeEnd}
 use Rattle.brine_codec.specs.declared.ends.DecodeEnd.TheVariants as decode_end
+use Rattle.message_core.specs.declared.message.Message.{Message}
 use Rattle.message_core.specs.declared.faults.MsgFault.{MsgFault}
 use Rattle.message_core.specs.declared.faults.MsgFault.TheVariants as fault
 use Rattle.message_core.specs.declared.faults.PeerKind.TheVariants as peer
 use Rattle.message_core.specs.declared.faults.PeerFault.{PeerFault}
 use Rattle.report_text.specs.declared.judging.FrameEnd.{FrameEnd}
 use Rattle.report_text.specs.declared.judging.FrameEnd.TheVariants as frame_end
+use Rattle.report_text.specs.MessageLines.{line, message_text}
 use Rattle.report_text.specs.Dumping.{brine_kind, dump_fault, fault_at, frame_kind, lines_of, message_kind, messages_in}
 
 -- the answer is this one, unless memory ran out
@@ -50,6 +52,12 @@ Takes view at old (Ok (Some x)) new = front old ≡ Whole (view x) new
 Takes view at old (Ok None) new = front old ≡ Part
 Takes view at old (Err (frame_end.Fault f)) new = (fault : Fault) × (place : ℕ) × (front old ≡ Faulty fault place) × (f ≡ fault_at (frame_kind fault) (at + place))
 Takes view at old (Err frame_end.NoMemory) new = Unit {0}
+
+-- The line of the message that a frame was judged was appended, or the answer tells its fault, unless memory ran out.
+abbrev pub Adds : Result Message PeerFault → Result (Unit {0}) FrameEnd → List ℕ → List ℕ → Type 0
+Adds judged (Ok _) old new = (m : Message) × (judged ≡ Ok m) × (new ≡ old ++ line (message_text m))
+Adds judged (Err (frame_end.Fault f)) old new = (judged ≡ Err f) × (new ≡ old)
+Adds judged (Err frame_end.NoMemory) old new = Unit {0}
 
 -- whether a stream may end in these bytes, which stand at this place
 abbrev pub checked_end : ℕ → List ℕ → Result (Unit {0}) FrameEnd

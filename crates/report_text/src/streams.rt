@@ -1,6 +1,6 @@
 ghost use Rattle.std.specs.Prelude.{◌≡◌, ◌≤◌, ◌<◌, ◌+◌, ◌++◌, ◌^◌, IfOk, OnOk, drop, length, string_bytes};
-ghost use Rattle.report_text.specs.Dumping.{dump_fault, dump_text, fault_text};
-ghost use Rattle.report_text.specs.Stepping.{Prints, Takes, checked_end, shown, told_length};
+ghost use Rattle.report_text.specs.Dumping.{dump_fault, dump_text, fault_text, judge};
+ghost use Rattle.report_text.specs.Stepping.{Adds, Prints, Takes, checked_end, shown, told_length};
 
 use crate::dumped::Dump;
 use crate::judging::{FLAG, FrameEnd, HEADER, judge_frame};
@@ -40,11 +40,21 @@ fn push_lines(alloc: Global, bytes: &[u8], text: &mut String) -> Result<(), Fram
     let mut start = 0;
     'frames: while let Some(body) = next_body(alloc, bytes, start, &mut deframer)? {
         let data = body.as_slice();
-        let message = judge_frame(alloc, start, data)?;
-        push_line(&message, text)?;
+        push_frame(alloc, start, data, text)?;
         start += HEADER + data.len() + 1;
     }
     check_end(start, bytes)
+}
+
+/// Appends the line of the message that the data are, of the frame that begins at this byte of the stream.
+fn push_frame(alloc: Global, start: usize, body: &[u8], text: &mut String) -> Result<(), FrameEnd>
+    requires { start + length body.now < 2 ^ 63 }
+    ensures { Adds (judge (start, body.now)) result (string_bytes text.old) (string_bytes text.new) }
+{
+    match judge_frame(alloc, start, body) {
+        Ok(message) => Ok(push_line(&message, text)?),
+        Err(end) => Err(end),
+    }
 }
 
 /// The data of the frame at this byte of the stream, or None where no whole frame is there, or its fault.
