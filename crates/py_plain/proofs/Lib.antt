@@ -1,4 +1,6 @@
+pub mod CodePoints
 pub mod Examples
 pub mod PutLaws
 pub mod Stands
+pub mod TupleOrder
 pub mod Weights
