@@ -1,5 +1,5 @@
 -- The order of UTF-8 bytes is that of the code points.
-use Rattle.std.proofs.Common.{◌≡◌, ℕ, ◌+◌, ◌/◌, ◌%◌, ◌<◌, ◌≤◌, ◌⊎◌, inl, inr, Bool, true, false, ◌&&◌, ◌==◌, nat_lt, List, [], ◌∷◌, ◌++◌, Option, Some, Ordering, Less, Equal, Greater, nat_cmp, refl, sym, ◌∙◌, ap, arith, absurd, encode_utf8_all, cond}
+use Rattle.std.proofs.Common.{◌≡◌, ℕ, ◌+◌, ◌/◌, ◌%◌, ◌<◌, ◌≤◌, ◌⊎◌, inl, inr, Bool, true, false, ◌==◌, nat_lt, List, [], ◌∷◌, ◌++◌, Some, Ordering, Less, Equal, Greater, nat_cmp, refl, sym, ◌∙◌, ap, arith, encode_utf8_all, cond}
 use Rattle.std.proofs.lemmas.Bool.{ltb-true, ltb-false, lt-ltb, le-ltb, and_parts}
 use Rattle.std.proofs.lemmas.Bool.Decides.{nat_tests}
 use Rattle.std.proofs.lemmas.Cmp.{nat_list_cmp_total}
@@ -79,7 +79,7 @@ three_bytes : (c d : ℕ) (xs ys : List ℕ) → c < d → bytes_order ((224 + c
 three_bytes c d xs ys h =
     let p : c / 4096 ≡ c / 64 / 64 = omega arith in
     let q : d / 4096 ≡ d / 64 / 64 = omega arith in
-    step (224 + c / 4096) (224 + d / 4096) _ _ (omega arith)
+    step (224 + c / 4096) (224 + d / 4096) (next (c / 64) ∷ next c ∷ xs) (next (d / 64) ∷ next d ∷ ys) (omega arith)
     (λ e. step (next (c / 64)) (next (d / 64)) (next c ∷ xs) (next d ∷ ys) (omega arith) (λ f. before (next c) (next d) xs ys (omega arith)))
 
 four_bytes : (c d : ℕ) (xs ys : List ℕ) → c < d → bytes_order ((240 + c / 262144) ∷ next (c / 4096) ∷ next (c / 64) ∷ next c ∷ xs) ((240 + d / 262144) ∷ next (d / 4096) ∷ next (d / 64) ∷ next d ∷ ys) ≡ Less
@@ -88,8 +88,8 @@ four_bytes c d xs ys h =
     let q : d / 4096 ≡ d / 64 / 64 = omega arith in
     let r : c / 262144 ≡ c / 64 / 64 / 64 = omega arith in
     let s : d / 262144 ≡ d / 64 / 64 / 64 = omega arith in
-    step (240 + c / 262144) (240 + d / 262144) _ _ (omega arith)
-    (λ e. step (next (c / 4096)) (next (d / 4096)) _ _ (omega arith)
+    step (240 + c / 262144) (240 + d / 262144) (next (c / 4096) ∷ next (c / 64) ∷ next c ∷ xs) (next (d / 4096) ∷ next (d / 64) ∷ next d ∷ ys) (omega arith)
+    (λ e. step (next (c / 4096)) (next (d / 4096)) (next (c / 64) ∷ next c ∷ xs) (next (d / 64) ∷ next d ∷ ys) (omega arith)
     (λ f. step (next (c / 64)) (next (d / 64)) (next c ∷ xs) (next d ∷ ys) (omega arith) (λ g. before (next c) (next d) xs ys (omega arith))))
 
 less : (c d : ℕ) (xs ys : List ℕ) → c < d → d < 1114112 → bytes_order (encode c ++ xs) (encode d ++ ys) ≡ Less
@@ -98,16 +98,16 @@ less c d xs ys h top = go (length_of c) (length_of d)
     go : Length c → Length d → bytes_order (encode c ++ xs) (encode d ++ ys) ≡ Less
     go (inl a) (inl b) = (λ i. bytes_order (one c a i ++ xs) (one d b i ++ ys)) ∙ before c d xs ys h
     go (inl a) (inr (inl b)) = (λ i. bytes_order (one c a i ++ xs) (two d b.0 b.1 i ++ ys)) ∙ before c (192 + d / 64) xs (next d ∷ ys) (omega (arith, a))
-    go (inl a) (inr (inr (inl b))) = (λ i. bytes_order (one c a i ++ xs) (three d b.0 b.1 i ++ ys)) ∙ before c (224 + d / 4096) xs _ (omega (arith, a))
-    go (inl a) (inr (inr (inr b))) = (λ i. bytes_order (one c a i ++ xs) (four d b i ++ ys)) ∙ before c (240 + d / 262144) xs _ (omega (arith, a))
+    go (inl a) (inr (inr (inl b))) = (λ i. bytes_order (one c a i ++ xs) (three d b.0 b.1 i ++ ys)) ∙ before c (224 + d / 4096) xs (next (d / 64) ∷ next d ∷ ys) (omega (arith, a))
+    go (inl a) (inr (inr (inr b))) = (λ i. bytes_order (one c a i ++ xs) (four d b i ++ ys)) ∙ before c (240 + d / 262144) xs (next (d / 4096) ∷ next (d / 64) ∷ next d ∷ ys) (omega (arith, a))
     go (inr (inl a)) (inl b) = absurd (omega (arith, a.0, b))
     go (inr (inl a)) (inr (inl b)) = (λ i. bytes_order (two c a.0 a.1 i ++ xs) (two d b.0 b.1 i ++ ys)) ∙ two_bytes c d xs ys h
-    go (inr (inl a)) (inr (inr (inl b))) = (λ i. bytes_order (two c a.0 a.1 i ++ xs) (three d b.0 b.1 i ++ ys)) ∙ before (192 + c / 64) (224 + d / 4096) _ _ (omega (arith, a.1))
-    go (inr (inl a)) (inr (inr (inr b))) = (λ i. bytes_order (two c a.0 a.1 i ++ xs) (four d b i ++ ys)) ∙ before (192 + c / 64) (240 + d / 262144) _ _ (omega (arith, a.1))
+    go (inr (inl a)) (inr (inr (inl b))) = (λ i. bytes_order (two c a.0 a.1 i ++ xs) (three d b.0 b.1 i ++ ys)) ∙ before (192 + c / 64) (224 + d / 4096) (next c ∷ xs) (next (d / 64) ∷ next d ∷ ys) (omega (arith, a.1))
+    go (inr (inl a)) (inr (inr (inr b))) = (λ i. bytes_order (two c a.0 a.1 i ++ xs) (four d b i ++ ys)) ∙ before (192 + c / 64) (240 + d / 262144) (next c ∷ xs) (next (d / 4096) ∷ next (d / 64) ∷ next d ∷ ys) (omega (arith, a.1))
     go (inr (inr (inl a))) (inl b) = absurd (omega (arith, a.0, b))
     go (inr (inr (inl a))) (inr (inl b)) = absurd (omega (arith, a.0, b.1))
     go (inr (inr (inl a))) (inr (inr (inl b))) = (λ i. bytes_order (three c a.0 a.1 i ++ xs) (three d b.0 b.1 i ++ ys)) ∙ three_bytes c d xs ys h
-    go (inr (inr (inl a))) (inr (inr (inr b))) = (λ i. bytes_order (three c a.0 a.1 i ++ xs) (four d b i ++ ys)) ∙ before (224 + c / 4096) (240 + d / 262144) _ _ (omega (arith, a.1))
+    go (inr (inr (inl a))) (inr (inr (inr b))) = (λ i. bytes_order (three c a.0 a.1 i ++ xs) (four d b i ++ ys)) ∙ before (224 + c / 4096) (240 + d / 262144) (next (c / 64) ∷ next c ∷ xs) (next (d / 4096) ∷ next (d / 64) ∷ next d ∷ ys) (omega (arith, a.1))
     go (inr (inr (inr a))) (inl b) = absurd (omega (arith, a, b))
     go (inr (inr (inr a))) (inr (inl b)) = absurd (omega (arith, a, b.1))
     go (inr (inr (inr a))) (inr (inr (inl b))) = absurd (omega (arith, a, b.1))

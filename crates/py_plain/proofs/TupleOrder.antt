@@ -1,14 +1,14 @@
 -- Tuples stand as their first unequal pair, and an order agrees with equality.
-use Rattle.std.proofs.Common.{◌≡◌, List, [], ◌∷◌, ◌++◌, map, Bool, true, false, ◌&&◌, Option, Some, None, Ordering, Less, Equal, Greater, refl, sym, ◌∙◌, ap, subst, if◌then◌else◌}
+use Rattle.std.proofs.Common.{◌≡◌, List, [], ◌∷◌, ◌++◌, map, Bool, true, false, ◌&&◌, Option, Some, Ordering, Less, Equal, Greater, refl, sym, ◌∙◌, ap, subst, if◌then◌else◌}
 use Rattle.std.proofs.lemmas.Bool.{and_parts}
 use Rattle.std.proofs.lemmas.Map.Text.{is_eq-slice_cmp}
-use Rattle.std.specs.Ordering.{is_eq, int_cmp}
+use Rattle.std.specs.Ordering.{is_eq}
 use Rattle.rp_base.specs.declared.plain.Plain.{Plain, out-Plain, roll-Plain}
 use Rattle.rp_base.specs.declared.plain.Plain.TheOpen.{Plain-F}
 use Rattle.rp_base.specs.declared.plain.Plain.TheVariants as plain
 use Rattle.rp_base.specs.declared.plain.Plain.TheViews.{roll-out-Plain}
 use Rattle.rp_base.specs.declared.plain.Plain.TheFolds.{ind-Plain, map-Plain}
-use Rattle.rp_base.specs.PlainValues.{look, gather, tests_all, compare_layers, equal_to, equal_items}
+use Rattle.rp_base.specs.PlainValues.{gather, tests_all, compare_layers, equal_to, equal_items}
 use Rattle.rp_base.specs.PlainLaws.{gather_roll, look_roll}
 use Rattle.rp_base.specs.EqualLaws.{equal_layers}
 use Rattle.py_plain.specs.Comparing.{first_unequal, order_at, order_step, order_of, items_order}
@@ -65,7 +65,7 @@ longer us vs xs x h = order_tuples (us ++ x ∷ xs) vs ∙ greater us vs h
 abbrev Orders : Type 0
 Orders = Plain → Plain → Option Ordering
 
-abbrev own_order : Orders
+abbrev own_order : Plain → Orders
 own_order = gather Orders order_step
 
 order_layers : (x z : Plain-F Plain) → order_of (roll-Plain x) (roll-Plain z) ≡ order_at (map-Plain Plain Orders own_order x) x z
@@ -89,17 +89,17 @@ unfolding order_of
 items_agree [] [] o h = ap is_eq (some_is Equal o h)
 items_agree [] (z ∷ zs) o h = ap is_eq (some_is Less o h)
 items_agree (y ∷ ys) [] o h = ap is_eq (some_is Greater o h)
-items_agree (y ∷ ys) (z ∷ zs) o h = split (equal_to y.0 z) refl
+items_agree (y ∷ ys) (z ∷ zs) o h = split (equal_to y.0 z) refl (items_agree ys zs o)
   where
-    split : (b : Bool) → equal_to y.0 z ≡ b → equal_to y.0 z && tests_all (map equal_to (map (λ e. e.0) ys)) zs ≡ is_eq o
-    split true e =
-        let later = first_unequal (map own_order (map (λ f. f.0) ys)) (map (λ f. f.0) ys) zs in
-        let rest : later ≡ Some o = ap (λ (b : Bool). if b then later else own_order y.0 y.0 z) (sym e) ∙ h in
-        ap (λ (b : Bool). b && tests_all (map equal_to (map (λ f. f.0) ys)) zs) e ∙ items_agree ys zs o rest
-    split false e =
-        let later = first_unequal (map own_order (map (λ f. f.0) ys)) (map (λ f. f.0) ys) zs in
-        let here : own_order y.0 y.0 z ≡ Some o = ap (λ (b : Bool). if b then later else own_order y.0 y.0 z) (sym e) ∙ h in
-        ap (λ (b : Bool). b && tests_all (map equal_to (map (λ f. f.0) ys)) zs) e ∙ sym e ∙ y.1 z o here
+    later : Option Ordering
+    later = first_unequal (map own_order (map (λ e. e.0) ys)) (map (λ e. e.0) ys) zs
+
+    rest : Bool
+    rest = tests_all (map equal_to (map (λ e. e.0) ys)) zs
+
+    split : (b : Bool) → equal_to y.0 z ≡ b → (later ≡ Some o → rest ≡ is_eq o) → equal_to y.0 z && rest ≡ is_eq o
+    split true e more = ap (λ (b : Bool). b && rest) e ∙ more (ap (λ (b : Bool). if b then later else own_order y.0 y.0 z) (sym e) ∙ h)
+    split false e more = ap (λ (b : Bool). b && rest) e ∙ sym e ∙ y.1 z o (ap (λ (b : Bool). if b then later else own_order y.0 y.0 z) (sym e) ∙ h)
 
 layer_agrees : (y : Plain-F ((p : Plain) × Agrees p)) (z : Plain-F Plain) (o : Ordering)
     → order_at (map-Plain Plain Orders own_order (bare y)) (bare y) z ≡ Some o → compare_layers (map-Plain Plain (Plain → Bool) equal_to (bare y)) z ≡ is_eq o

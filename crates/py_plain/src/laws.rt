@@ -1,6 +1,6 @@
 ghost use Rattle.std.specs.Prelude.{◌≡◌, ◌≤◌, ◌∷◌, ◌++◌, ℕ, List, Bool, true, false, IsTrue, Some, Ok, Err, max, map, encode_utf8_all};
 ghost use Rattle.std.specs.Cmp.Lexicographic.{slice_cmp};
-ghost use Rattle.std.specs.Ordering.{Ordering, is_eq, nat_cmp};
+ghost use Rattle.std.specs.Ordering.{is_eq, nat_cmp};
 ghost use Rattle.std.specs.Str.{all_scalars};
 ghost use Rattle.rp_base.specs.PlainValues.{equal_to, equal_items, plain_weight, plain_depth};
 ghost use Rattle.rp_base.specs.Values.{heaviest_value};
@@ -9,6 +9,7 @@ ghost use Rattle.py_plain.specs.Comparing.{order_of};
 ghost use Rattle.py_plain.specs.Printing.{repr_of, str_of, tuple_repr};
 
 use rp_base::Plain;
+use std::cmp::Ordering;
 
 /// Where two values have an order, they stand as equal exactly where Python's `==` holds of them. So exactly one of `<`,
 /// `==` and `>` holds then.
