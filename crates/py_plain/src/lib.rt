@@ -15,8 +15,8 @@ mod unary;
 pub use binary::plain_binary;
 pub use ends::PlainEnd;
 pub use laws::{
-    order_agrees_with_equality, texts_stand_as_their_code_points,
-    tuples_stand_as_their_first_unequal_pair,
+    order_agrees_with_equality, results_keep_the_limits, texts_stand_as_their_code_points,
+    tuples_stand_as_their_first_unequal_pair, values_print_as_their_kinds,
 };
 pub use order::plain_compare;
 pub use repr::{plain_repr, plain_str};
