@@ -2,29 +2,60 @@ use crate::{
     PlainEnd, plain_binary, plain_compare, plain_repr, plain_str, plain_truth, plain_unary,
 };
 use rp_base::BinaryOp::{Add, And, Div, FloorDiv, Mod, Mul, Or, Pow, Shl, Shr, Sub, Xor};
-use rp_base::{BinaryOp, Blob, CmpOp, Plain, Text, UnaryOp};
+use rp_base::CmpOp::{Eq, Ge, Gt, Le, Lt, Ne};
+use rp_base::UnaryOp::{Invert, Neg, Pos};
+use rp_base::{BinaryOp, Blob, CmpOp, Plain, Text};
 use sqlite_items::Items;
 use std::alloc::Global;
 use std::test::Fail;
 
-fn text(alloc: Global, s: &str) -> Result<Plain, Fail> {
-    Ok(Plain::Text(Text::from_str(alloc, s)?))
+/// What stands in a row of a table for a value that is no tuple.
+#[derive(Clone, Copy)]
+enum Atom {
+    Nil,
+    Bool(bool),
+    Int(i128),
+    Str(&'static str),
+    Raw(&'static str),
+    NotImpl,
+    Dots,
 }
 
-fn bytes(alloc: Global, s: &str) -> Result<Plain, Fail> {
-    Ok(Plain::Bytes(Blob::from_vec(s.as_bytes().to_vec(alloc)?)))
+/// What stands there for any value: a tuple has up to two items.
+#[derive(Clone, Copy)]
+enum Item {
+    Atom(Atom),
+    Zero,
+    One(Atom),
+    Two(Atom, Atom),
 }
 
-fn pair(alloc: Global, a: Plain, b: Plain) -> Result<Plain, Fail> {
+use Atom::{Bool, Dots, Int, Nil, NotImpl, Raw, Str};
+use Item::{One, Two, Zero};
+
+fn of_atom(alloc: Global, atom: Atom) -> Result<Plain, Fail> {
+    match atom {
+        Atom::Nil => Ok(Plain::None),
+        Atom::Bool(b) => Ok(Plain::Bool(b)),
+        Atom::Int(n) => Ok(Plain::Int(n)),
+        Atom::Str(s) => Ok(Plain::Text(Text::from_str(alloc, s)?)),
+        Atom::Raw(s) => Ok(Plain::Bytes(Blob::from_vec(s.as_bytes().to_vec(alloc)?))),
+        Atom::NotImpl => Ok(Plain::NotImpl),
+        Atom::Dots => Ok(Plain::Ellipsis),
+    }
+}
+
+fn value(alloc: Global, item: Item) -> Result<Plain, Fail> {
     let mut items = Items::new(alloc);
-    items.push(a)?;
-    items.push(b)?;
-    Ok(Plain::Tuple(items))
-}
-
-fn single(alloc: Global, a: Plain) -> Result<Plain, Fail> {
-    let mut items = Items::new(alloc);
-    items.push(a)?;
+    match item {
+        Item::Atom(atom) => return of_atom(alloc, atom),
+        Item::Zero => {}
+        Item::One(a) => items.push(of_atom(alloc, a)?)?,
+        Item::Two(a, b) => {
+            items.push(of_atom(alloc, a)?)?;
+            items.push(of_atom(alloc, b)?)?;
+        }
+    }
     Ok(Plain::Tuple(items))
 }
 
@@ -48,11 +79,31 @@ fn shown(alloc: Global, answer: Result<Plain, PlainEnd>) -> Result<String, Fail>
     Ok(out)
 }
 
+/// What `a op b` gives.
+fn binary(alloc: Global, a: Item, op: BinaryOp, b: Item) -> Result<String, Fail> {
+    shown(
+        alloc,
+        plain_binary(alloc, op, &value(alloc, a)?, &value(alloc, b)?),
+    )
+}
+
+/// What the comparison gives.
+fn compared(alloc: Global, a: Item, op: CmpOp, b: Item) -> Result<String, Fail> {
+    match plain_compare(alloc, op, &value(alloc, a)?, &value(alloc, b)?) {
+        Ok(holds) => shown(alloc, Ok(Plain::Bool(holds))),
+        Err(end) => shown(alloc, Err(end)),
+    }
+}
+
 const TOP: i128 = i128::MAX;
 
 const LOW: i128 = i128::MIN;
 
 const DIVIDED: &str = "ZeroDivisionError: division by zero";
+
+const REFUSED: &str = "TypeError: unsupported operand";
+
+const NO_ORDER: &str = "TypeError: no order";
 
 #[test]
 fn ints_at_the_ends_of_128_bits(rt: HostRuntime) -> Result<(), Fail> {
@@ -86,96 +137,80 @@ fn ints_at_the_ends_of_128_bits(rt: HostRuntime) -> Result<(), Fail> {
         (6, Or, 3, "7"),
         (-1, Xor, 5, "-6"),
     ];
-    let alloc = rt.alloc();
     for (a, op, b, wanted) in rows {
-        let answer = plain_binary(alloc, op, &Plain::Int(a), &Plain::Int(b));
-        assert_eq!(rt; shown(alloc, answer)?.as_str(), wanted);
+        let answer = binary(rt.alloc(), Item::Atom(Int(a)), op, Item::Atom(Int(b)))?;
+        assert_eq!(rt; answer.as_str(), wanted);
     }
     Ok(())
 }
 
 #[test]
-fn bools_count_as_ints(rt: HostRuntime) -> Result<(), Fail> {
+fn bools_texts_bytes_and_tuples(rt: HostRuntime) -> Result<(), Fail> {
     let rows = [
-        (true, Add, true, "2"),
-        (true, And, false, "False"),
-        (false, Or, true, "True"),
-        (true, Xor, true, "False"),
-        (true, Pow, false, "1"),
-        (false, Div, false, DIVIDED),
-        (true, Shl, true, "2"),
-    ];
-    let alloc = rt.alloc();
-    for (a, op, b, wanted) in rows {
-        let answer = plain_binary(alloc, op, &Plain::Bool(a), &Plain::Bool(b));
-        assert_eq!(rt; shown(alloc, answer)?.as_str(), wanted);
-    }
-    let mixed = plain_binary(alloc, And, &Plain::Bool(true), &Plain::Int(3));
-    assert_eq!(rt; shown(alloc, mixed)?.as_str(), "1");
-    let rows = [
-        (UnaryOp::Neg, Plain::Bool(true), "-1"),
-        (UnaryOp::Pos, Plain::Bool(false), "0"),
+        (Item::Atom(Bool(true)), Add, Item::Atom(Bool(true)), "2"),
         (
-            UnaryOp::Invert,
-            Plain::Int(TOP),
-            "-170141183460469231731687303715884105728",
+            Item::Atom(Bool(true)),
+            And,
+            Item::Atom(Bool(false)),
+            "False",
         ),
-        (UnaryOp::Neg, Plain::Int(LOW), "Int"),
-        (UnaryOp::Neg, Plain::None, "TypeError: unsupported operand"),
+        (Item::Atom(Bool(false)), Or, Item::Atom(Bool(true)), "True"),
+        (Item::Atom(Bool(true)), Xor, Item::Atom(Bool(true)), "False"),
+        (Item::Atom(Bool(true)), And, Item::Atom(Int(3)), "1"),
+        (Item::Atom(Str("ab")), Mul, Item::Atom(Int(3)), "'ababab'"),
+        (Item::Atom(Int(2)), Mul, Item::Atom(Raw("ab")), "b'abab'"),
+        (
+            Two(Int(1), Str("a")),
+            Mul,
+            Item::Atom(Int(2)),
+            "(1, 'a', 1, 'a')",
+        ),
+        (Item::Atom(Bool(true)), Mul, Item::Atom(Str("ab")), "'ab'"),
+        (Item::Atom(Raw("ab")), Mul, Item::Atom(Int(-1)), "b''"),
+        (One(Nil), Mul, Item::Atom(Int(0)), "()"),
+        (
+            Item::Atom(Str("")),
+            Mul,
+            Item::Atom(Int((1 << 63) - 1)),
+            "''",
+        ),
+        (Item::Atom(Str("")), Mul, Item::Atom(Int(1 << 63)), "Int"),
+        (One(Nil), Mul, Item::Atom(Int(-(1 << 63))), "()"),
+        (One(Nil), Mul, Item::Atom(Int(-(1 << 63) - 1)), "Int"),
+        (Zero, Mul, Item::Atom(Int((1 << 63) - 1)), "()"),
+        (Item::Atom(Str("a")), Mul, Item::Atom(Int(1 << 20)), "Size"),
+        (One(Nil), Mul, Item::Atom(Int(1 << 20)), "Size"),
+        (Item::Atom(Str("a")), Add, Item::Atom(Str("b")), "'ab'"),
+        (Item::Atom(Raw("a")), Add, Item::Atom(Raw("b")), "b'ab'"),
+        (Two(Int(1), Str("a")), Add, One(Nil), "(1, 'a', None)"),
+        (Item::Atom(Str("a")), Add, Item::Atom(Raw("b")), REFUSED),
+        (Item::Atom(Str("a")), Mul, Item::Atom(Str("b")), REFUSED),
+        (Item::Atom(Str("%s")), Mod, Item::Atom(Int(1)), "Operator"),
+        (Item::Atom(Raw("")), Mod, Item::Atom(Nil), "Operator"),
+        (Item::Atom(Int(5)), Mod, Item::Atom(Str("a")), REFUSED),
+        (One(Nil), Mod, Item::Atom(Int(2)), REFUSED),
+        (Item::Atom(Nil), Mul, Item::Atom(Int(1 << 100)), REFUSED),
+        (Item::Atom(NotImpl), Sub, Item::Atom(Dots), REFUSED),
+    ];
+    for (a, op, b, wanted) in rows {
+        assert_eq!(rt; binary(rt.alloc(), a, op, b)?.as_str(), wanted);
+    }
+    Ok(())
+}
+
+#[test]
+fn one_operand(rt: HostRuntime) -> Result<(), Fail> {
+    let alloc = rt.alloc();
+    let rows = [
+        (Neg, Bool(true), "-1"),
+        (Pos, Bool(false), "0"),
+        (Invert, Int(TOP), "-170141183460469231731687303715884105728"),
+        (Neg, Int(LOW), "Int"),
+        (Neg, Nil, REFUSED),
     ];
     for (op, a, wanted) in rows {
-        assert_eq!(rt; shown(alloc, plain_unary(alloc, op, &a))?.as_str(), wanted);
-    }
-    Ok(())
-}
-
-const REFUSED: &str = "TypeError: unsupported operand";
-
-#[test]
-fn texts_bytes_and_tuples(rt: HostRuntime) -> Result<(), Fail> {
-    let alloc = rt.alloc();
-    let two = || pair(alloc, Plain::Int(1), text(alloc, "a")?);
-    let rows = [
-        (text(alloc, "ab")?, Mul, Plain::Int(3), "'ababab'"),
-        (Plain::Int(2), Mul, bytes(alloc, "ab")?, "b'abab'"),
-        (two()?, Mul, Plain::Int(2), "(1, 'a', 1, 'a')"),
-        (Plain::Bool(true), Mul, text(alloc, "ab")?, "'ab'"),
-        (bytes(alloc, "ab")?, Mul, Plain::Int(-1), "b''"),
-        (two()?, Mul, Plain::Int(0), "()"),
-        (text(alloc, "")?, Mul, Plain::Int((1 << 63) - 1), "''"),
-        (text(alloc, "")?, Mul, Plain::Int(1 << 63), "Int"),
-        (two()?, Mul, Plain::Int(-(1 << 63)), "()"),
-        (two()?, Mul, Plain::Int(-(1 << 63) - 1), "Int"),
-        (
-            Plain::Tuple(Items::new(alloc)),
-            Mul,
-            Plain::Int((1 << 63) - 1),
-            "()",
-        ),
-        (text(alloc, "a")?, Mul, Plain::Int(1 << 20), "Size"),
-        (
-            single(alloc, Plain::None)?,
-            Mul,
-            Plain::Int(1 << 20),
-            "Size",
-        ),
-        (text(alloc, "a")?, Add, text(alloc, "b")?, "'ab'"),
-        (bytes(alloc, "a")?, Add, bytes(alloc, "b")?, "b'ab'"),
-        (two()?, Add, single(alloc, Plain::None)?, "(1, 'a', None)"),
-        (text(alloc, "a")?, Add, bytes(alloc, "b")?, REFUSED),
-        (text(alloc, "a")?, Mul, text(alloc, "b")?, REFUSED),
-        (text(alloc, "%s")?, Mod, Plain::Int(1), "Operator"),
-        (bytes(alloc, "")?, Mod, Plain::None, "Operator"),
-        (Plain::Int(5), Mod, text(alloc, "a")?, REFUSED),
-        (two()?, Mod, Plain::Int(2), REFUSED),
-        (Plain::None, Mul, Plain::Int(1 << 100), REFUSED),
-        (Plain::NotImpl, Sub, Plain::Ellipsis, REFUSED),
-    ];
-    for (a, op, b, wanted) in rows {
-        assert_eq!(rt;
-            shown(alloc, plain_binary(alloc, op, &a, &b))?.as_str(),
-            wanted
-        );
+        let answer = plain_unary(alloc, op, &of_atom(alloc, a)?);
+        assert_eq!(rt; shown(alloc, answer)?.as_str(), wanted);
     }
     Ok(())
 }
@@ -183,7 +218,7 @@ fn texts_bytes_and_tuples(rt: HostRuntime) -> Result<(), Fail> {
 #[test]
 fn the_heaviest_text(rt: HostRuntime) -> Result<(), Fail> {
     let alloc = rt.alloc();
-    let line = text(alloc, "0123456789abcdefghijklmno")?;
+    let line = of_atom(alloc, Str("0123456789abcdefghijklmno"))?;
     let piece = plain_binary(alloc, Mul, &line, &Plain::Int(41))
         .ok()
         .ok_or("1,025 bytes")?;
@@ -191,101 +226,63 @@ fn the_heaviest_text(rt: HostRuntime) -> Result<(), Fail> {
         .ok()
         .ok_or("2^20 - 1 bytes")?;
     assert_eq!(rt; heaviest.weight(), 1 << 20);
-    let more = plain_binary(alloc, Add, &heaviest, &text(alloc, "a")?);
+    let more = plain_binary(alloc, Add, &heaviest, &of_atom(alloc, Str("a"))?);
     assert_eq!(rt; shown(alloc, more)?.as_str(), "Size");
-    let same = plain_binary(alloc, Add, &heaviest, &text(alloc, "")?);
+    let same = plain_binary(alloc, Add, &heaviest, &of_atom(alloc, Str(""))?);
     assert!(rt; same.is_ok());
     Ok(())
 }
 
-fn compared(alloc: Global, a: &Plain, op: CmpOp, b: &Plain) -> Result<String, Fail> {
-    match plain_compare(alloc, op, a, b) {
-        Ok(holds) => shown(alloc, Ok(Plain::Bool(holds))),
-        Err(end) => shown(alloc, Err(end)),
-    }
-}
-
-const NO_ORDER: &str = "TypeError: no order";
-
 #[test]
 fn values_are_compared(rt: HostRuntime) -> Result<(), Fail> {
-    let alloc = rt.alloc();
-    let one = || single(alloc, Plain::Int(1));
-    let none = || single(alloc, Plain::None);
     let rows = [
-        (Plain::Bool(true), CmpOp::Lt, Plain::Int(2), "True"),
-        (Plain::Int(0), CmpOp::Ge, Plain::Bool(false), "True"),
-        (text(alloc, "Z")?, CmpOp::Lt, text(alloc, "a")?, "True"),
+        (Item::Atom(Bool(true)), Lt, Item::Atom(Int(2)), "True"),
+        (Item::Atom(Int(0)), Ge, Item::Atom(Bool(false)), "True"),
+        (Item::Atom(Str("Z")), Lt, Item::Atom(Str("a")), "True"),
         (
-            text(alloc, "\u{ffff}")?,
-            CmpOp::Lt,
-            text(alloc, "\u{10000}")?,
+            Item::Atom(Str("\u{ffff}")),
+            Lt,
+            Item::Atom(Str("\u{10000}")),
             "True",
         ),
-        (text(alloc, "ab")?, CmpOp::Le, text(alloc, "a")?, "False"),
-        (bytes(alloc, "a")?, CmpOp::Lt, bytes(alloc, "ab")?, "True"),
-        (
-            one()?,
-            CmpOp::Lt,
-            pair(alloc, Plain::Int(1), Plain::Int(2))?,
-            "True",
-        ),
-        (
-            single(alloc, Plain::Int(2))?,
-            CmpOp::Lt,
-            pair(alloc, Plain::Int(1), Plain::Int(5))?,
-            "False",
-        ),
-        (
-            pair(alloc, Plain::None, Plain::Int(1))?,
-            CmpOp::Lt,
-            pair(alloc, Plain::None, Plain::Int(2))?,
-            "True",
-        ),
-        (
-            pair(alloc, Plain::Int(1), Plain::None)?,
-            CmpOp::Gt,
-            pair(alloc, Plain::Bool(true), Plain::Int(2))?,
-            NO_ORDER,
-        ),
-        (
-            pair(alloc, Plain::Int(1), Plain::None)?,
-            CmpOp::Gt,
-            pair(alloc, Plain::Int(0), text(alloc, "")?)?,
-            "True",
-        ),
-        (none()?, CmpOp::Le, none()?, "True"),
-        (none()?, CmpOp::Lt, none()?, "False"),
-        (Plain::None, CmpOp::Le, Plain::None, NO_ORDER),
-        (Plain::Int(1), CmpOp::Lt, text(alloc, "a")?, NO_ORDER),
-        (text(alloc, "a")?, CmpOp::Eq, bytes(alloc, "a")?, "False"),
-        (one()?, CmpOp::Eq, single(alloc, Plain::Bool(true))?, "True"),
-        (Plain::NotImpl, CmpOp::Ne, Plain::NotImpl, "False"),
+        (Item::Atom(Str("ab")), Le, Item::Atom(Str("a")), "False"),
+        (Item::Atom(Raw("a")), Lt, Item::Atom(Raw("ab")), "True"),
+        (One(Int(1)), Lt, Two(Int(1), Int(2)), "True"),
+        (One(Int(2)), Lt, Two(Int(1), Int(5)), "False"),
+        (Two(Nil, Int(1)), Lt, Two(Nil, Int(2)), "True"),
+        (Two(Int(1), Nil), Gt, Two(Bool(true), Int(2)), NO_ORDER),
+        (Two(Int(1), Nil), Gt, Two(Int(0), Str("")), "True"),
+        (One(Nil), Le, One(Nil), "True"),
+        (One(Nil), Lt, One(Nil), "False"),
+        (Item::Atom(Nil), Le, Item::Atom(Nil), NO_ORDER),
+        (Item::Atom(Int(1)), Lt, Item::Atom(Str("a")), NO_ORDER),
+        (Item::Atom(Str("a")), Eq, Item::Atom(Raw("a")), "False"),
+        (One(Int(1)), Eq, One(Bool(true)), "True"),
+        (Item::Atom(NotImpl), Ne, Item::Atom(NotImpl), "False"),
     ];
     for (a, op, b, wanted) in rows {
-        assert_eq!(rt; compared(alloc, &a, op, &b)?.as_str(), wanted);
+        assert_eq!(rt; compared(rt.alloc(), a, op, b)?.as_str(), wanted);
     }
     Ok(())
 }
 
 #[test]
 fn truths(rt: HostRuntime) -> Result<(), Fail> {
-    let alloc = rt.alloc();
     let rows = [
-        (Plain::None, Some(false)),
-        (Plain::Bool(true), Some(true)),
-        (Plain::Int(0), Some(false)),
-        (Plain::Int(-1), Some(true)),
-        (text(alloc, "")?, Some(false)),
-        (text(alloc, "0")?, Some(true)),
-        (bytes(alloc, "")?, Some(false)),
-        (Plain::Tuple(Items::new(alloc)), Some(false)),
-        (single(alloc, Plain::None)?, Some(true)),
-        (Plain::Ellipsis, Some(true)),
-        (Plain::NotImpl, None),
+        (Item::Atom(Nil), Some(false)),
+        (Item::Atom(Bool(true)), Some(true)),
+        (Item::Atom(Int(0)), Some(false)),
+        (Item::Atom(Int(-1)), Some(true)),
+        (Item::Atom(Str("")), Some(false)),
+        (Item::Atom(Str("0")), Some(true)),
+        (Item::Atom(Raw("")), Some(false)),
+        (Zero, Some(false)),
+        (One(Nil), Some(true)),
+        (Item::Atom(Dots), Some(true)),
+        (Item::Atom(NotImpl), None),
     ];
     for (a, wanted) in rows {
-        assert_eq!(rt; plain_truth(&a).ok(), wanted);
+        assert_eq!(rt; plain_truth(&value(rt.alloc(), a)?).ok(), wanted);
     }
     Ok(())
 }
@@ -293,30 +290,23 @@ fn truths(rt: HostRuntime) -> Result<(), Fail> {
 #[test]
 fn values_are_printed(rt: HostRuntime) -> Result<(), Fail> {
     let alloc = rt.alloc();
-    let quotes = pair(alloc, text(alloc, "it's")?, bytes(alloc, "\u{0}'\"")?)?;
-    let value = pair(
-        alloc,
-        single(alloc, quotes)?,
-        pair(alloc, Plain::NotImpl, Plain::Ellipsis)?,
-    )?;
-    let printed = "(((\"it's\", b'\\x00\\'\"'),), (NotImplemented, Ellipsis))";
-    assert_eq!(rt; shown(alloc, Ok(value.copy(alloc)?))?.as_str(), printed);
+    let mut items = Items::new(alloc);
+    items.push(value(alloc, One(Str("it's")))?)?;
+    items.push(value(alloc, Two(Raw("\0'\""), Dots))?)?;
+    let nested = Plain::Tuple(items);
     let mut out = String::from_str(alloc, "x")?;
     assert!(rt;
-        plain_str(&text(alloc, "it's\n")?, 6, &mut out).is_ok() && out.as_str() == "xit's\n"
+        plain_str(&of_atom(alloc, Str("it's\n"))?, 6, &mut out).is_ok() && out.as_str() == "xit's\n"
     );
-    assert!(rt; plain_str(&text(alloc, "a")?, 6, &mut out).is_err() && out.as_str() == "xit's\n");
     assert!(rt;
-        plain_str(
-            &pair(alloc, text(alloc, "a")?, Plain::Int(-1))?,
-            15,
-            &mut out
-        )
-        .is_ok()
+        plain_str(&of_atom(alloc, Str("a"))?, 6, &mut out).is_err() && out.as_str() == "xit's\n"
     );
-    assert_eq!(rt; out.as_str(), "xit's\n('a', -1)");
-    assert!(rt; matches!(plain_repr(&value, 67, &mut out), Err(PlainEnd::Beyond(_))));
-    assert_eq!(rt; out.as_str(), "xit's\n('a', -1)");
-    assert!(rt; plain_repr(&value, 68, &mut out).is_ok());
+    assert!(rt; matches!(plain_repr(&nested, 40, &mut out), Err(PlainEnd::Beyond(_))));
+    assert_eq!(rt; out.as_str(), "xit's\n");
+    assert!(rt; plain_repr(&nested, 41, &mut out).is_ok());
+    assert_eq!(rt;
+        out.as_str(),
+        "xit's\n((\"it's\",), (b'\\x00\\'\"', Ellipsis))"
+    );
     Ok(())
 }
