@@ -1,4 +1,6 @@
 pub mod Codes
+pub mod Examples
 pub mod ItemLaws
 pub mod ReadLaws
 pub mod Utf8
+pub mod WholeLaws

@@ -1,5 +1,5 @@
 -- What texts and byte strings stand for, by what each of their items stands for.
-use Rattle.std.specs.Prelude.{ℕ, Bool, true, false, ◌==◌, ◌&&◌, List, [], ◌∷◌, Option, Some, None, option_map, if◌then◌else◌, encode_utf8}
+use Rattle.std.specs.Prelude.{ℕ, Bool, true, false, ◌==◌, ◌&&◌, List, [], ◌∷◌, Option, None, option_map, if◌then◌else◌, encode_utf8}
 use Rattle.std.specs.List.{flat_map}
 use Rattle.py_lexer.specs.Items.{Item, Byte, Mark, Hex, Code}
 use Rattle.py_lexer.specs.Spellings.{is_quote, hex_natural}

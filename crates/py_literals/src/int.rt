@@ -28,7 +28,9 @@ fn hex_value(digits: &[u8]) -> Option<i128>
     }
     let mut number = 0u128;
     for digit in digits {
-        number = number.saturating_mul(16).saturating_add(u128::from(hex_digit(*digit)?));
+        number = number
+            .saturating_mul(16)
+            .saturating_add(u128::from(hex_digit(*digit)?));
     }
     i128::try_from(number).ok()
 }

@@ -1,4 +1,4 @@
-use Rattle.std.proofs.Common.{◌≡◌, ◌∙◌, sym, ap, List, ℕ, Some, option_map}
+use Rattle.std.proofs.Common.{◌≡◌, ◌∙◌, sym, ap, Some, option_map}
 use Rattle.py_literals.specs.Values.{text_value}
 use Rattle.py_literals.proofs.Utf8.{text_utf8}
 use Rattle.py_literals.proofs.texts.text_literal.Goals as goal
