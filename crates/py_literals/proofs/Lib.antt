@@ -1,5 +1,6 @@
 pub mod Codes
 pub mod Examples
+pub mod IntLaws
 pub mod ItemLaws
 pub mod ReadLaws
 pub mod Utf8

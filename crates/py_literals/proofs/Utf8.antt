@@ -11,7 +11,7 @@ use Rattle.std.proofs.lemmas.Str.{IsUtf8-append, IsUtf8-take, IsUtf8-drop, IsUtf
 use Rattle.py_lexer.specs.Items.{Item, Byte, Mark, Hex, Code, is_mark, may_stand, all_may_stand, body}
 use Rattle.py_lexer.specs.Literals.{is_hex}
 use Rattle.py_lexer.specs.Spellings.{is_quote, hex_natural}
-use Rattle.py_literals.specs.Values.{marked, all_stand_for, text_value}
+use Rattle.py_literals.specs.Values.{marked, all_stand_for, text_literal_value}
 use Rattle.py_literals.proofs.Codes.{counts_below, plain_code, code_scalar}
 use Rattle.py_literals.proofs.ReadLaws.{items_spell}
 use Rattle.py_literals.specs.Reading.{items_of}
@@ -82,8 +82,8 @@ items_utf8 q (Code a b c d ∷ is) front low s u =
 quote_low : (q : ℕ) → is_quote q ≡ true → q < 128
 quote_low q h = grind (arith, nat_tests)
 
-pub text_utf8 : (text v : List ℕ) → IsUtf8 text → text_value text ≡ Some v → IsUtf8 v
-unfolding text_value
+pub text_utf8 : (text v : List ℕ) → IsUtf8 text → text_literal_value text ≡ Some v → IsUtf8 v
+unfolding text_literal_value
 text_utf8 [] v u e = cc
 text_utf8 (q ∷ rest) v u e = by_test (is_quote q) (items_of false q 0 rest) refl refl e
   where

@@ -11,28 +11,28 @@ use Rattle.py_lexer.specs.Literals.{is_hex, is_surrogate}
 use Rattle.py_lexer.specs.Spellings.{is_quote, hex_digit, hex_natural, count_in, is_some}
 use Rattle.py_literals.specs.Laws.{StandsFor, hex_of, code_of, escaped_bytes, escaped_text, all_below}
 use Rattle.py_literals.specs.Reading.{items_of}
-use Rattle.py_literals.specs.Values.{all_stand_for, body_value, text_value, bytes_value}
+use Rattle.py_literals.specs.Values.{all_stand_for, body_value, text_literal_value, bytes_literal_value}
 use Rattle.py_literals.proofs.ReadLaws.{items_read, items_spell}
 
-text_behind : (q : ℕ) (rest : List ℕ) → is_quote q ≡ true → text_value (q ∷ rest) ≡ body_value false q rest
-unfolding text_value
+text_behind : (q : ℕ) (rest : List ℕ) → is_quote q ≡ true → text_literal_value (q ∷ rest) ≡ body_value false q rest
+unfolding text_literal_value
 text_behind q rest h = rw h refl
 
-bytes_behind : (q : ℕ) (rest : List ℕ) → is_quote q ≡ true → bytes_value (98 ∷ q ∷ rest) ≡ body_value true q rest
-unfolding bytes_value
+bytes_behind : (q : ℕ) (rest : List ℕ) → is_quote q ≡ true → bytes_literal_value (98 ∷ q ∷ rest) ≡ body_value true q rest
+unfolding bytes_literal_value
 bytes_behind q rest h = rw h refl
 
 body_is : (b : Bool) (q : ℕ) (items : List Item) → is_quote q ≡ true → all_may_stand b q items ≡ true → body_value b q (body q items) ≡ Some (all_stand_for b items)
 body_is b q items h s = ap (option_map (all_stand_for b)) (items_read b q items h s)
 
-pub text_has_value : (text : List ℕ) (l : IsLiteral false text) → text_value text ≡ Some (all_stand_for false l.items)
-text_has_value text l = ap text_value l.whole ∙ text_behind l.quote (body l.quote l.items) l.quoted ∙ body_is false l.quote l.items l.quoted l.stand
+pub text_has_value : (text : List ℕ) (l : IsLiteral false text) → text_literal_value text ≡ Some (all_stand_for false l.items)
+text_has_value text l = ap text_literal_value l.whole ∙ text_behind l.quote (body l.quote l.items) l.quoted ∙ body_is false l.quote l.items l.quoted l.stand
 
-pub bytes_have_value : (text : List ℕ) (l : IsLiteral true text) → bytes_value text ≡ Some (all_stand_for true l.items)
-bytes_have_value text l = ap bytes_value l.whole ∙ bytes_behind l.quote (body l.quote l.items) l.quoted ∙ body_is true l.quote l.items l.quoted l.stand
+pub bytes_have_value : (text : List ℕ) (l : IsLiteral true text) → bytes_literal_value text ≡ Some (all_stand_for true l.items)
+bytes_have_value text l = ap bytes_literal_value l.whole ∙ bytes_behind l.quote (body l.quote l.items) l.quoted ∙ body_is true l.quote l.items l.quoted l.stand
 
-pub text_stands : (text value : List ℕ) → text_value text ≡ Some value → StandsFor false text value
-unfolding text_value
+pub text_stands : (text value : List ℕ) → text_literal_value text ≡ Some value → StandsFor false text value
+unfolding text_literal_value
 text_stands [] value e = cc
 text_stands (q ∷ rest) value e = by_test (is_quote q) (items_of false q 0 rest) refl refl e
   where
@@ -43,8 +43,8 @@ text_stands (q ∷ rest) value e = by_test (is_quote q) (items_of false q 0 rest
         let spells = items_spell false q 0 rest items r in
         (record { quote = q; items = items; quoted = h; stand = spells.0; whole = ap (λ (l : List ℕ). q ∷ l) spells.1 }, cc)
 
-pub bytes_stand : (text value : List ℕ) → bytes_value text ≡ Some value → StandsFor true text value
-unfolding bytes_value
+pub bytes_stand : (text value : List ℕ) → bytes_literal_value text ≡ Some value → StandsFor true text value
+unfolding bytes_literal_value
 bytes_stand [] value e = cc
 bytes_stand (b ∷ []) value e = cc
 bytes_stand (b ∷ q ∷ rest) value e = by_test (b == 98) (is_quote q) (items_of true q 0 rest) refl refl refl e
@@ -136,7 +136,7 @@ all_hex_mean (n ∷ ns) h =
     let low : n < 256 = grind arith in
     ap (λ (m : ℕ). m ∷ all_stand_for true (map hex_of ns)) (two_digits n low) ∙ ap (λ (l : List ℕ). n ∷ l) (all_hex_mean ns parts.1)
 
-pub bytes_read_back : (bytes : List ℕ) → all_below 256 bytes ≡ true → bytes_value (escaped_bytes bytes) ≡ Some bytes
+pub bytes_read_back : (bytes : List ℕ) → all_below 256 bytes ≡ true → bytes_literal_value (escaped_bytes bytes) ≡ Some bytes
 bytes_read_back bytes h =
     bytes_behind 39 (body 39 (map hex_of bytes)) refl ∙ body_is true 39 (map hex_of bytes) refl (all_hex_stand 39 bytes h) ∙ ap (λ (l : List ℕ). Some l) (all_hex_mean bytes h)
 
@@ -185,6 +185,6 @@ all_codes_mean (n ∷ ns) h =
     let low : n < 65536 = grind arith in
     ap (λ (m : ℕ). encode_utf8 m ++ all_stand_for false (map code_of ns)) (code_digits n low) ∙ ap (λ (l : List ℕ). encode_utf8 n ++ l) (all_codes_mean ns parts.1)
 
-pub texts_read_back : (cs : List ℕ) → all_below 65536 cs ≡ true → all_scalars cs ≡ true → text_value (escaped_text cs) ≡ Some (encode_utf8_all cs)
+pub texts_read_back : (cs : List ℕ) → all_below 65536 cs ≡ true → all_scalars cs ≡ true → text_literal_value (escaped_text cs) ≡ Some (encode_utf8_all cs)
 texts_read_back cs h s =
     text_behind 39 (body 39 (map code_of cs)) refl ∙ body_is false 39 (map code_of cs) refl (all_codes_stand 39 cs h s) ∙ ap (λ (l : List ℕ). Some l) (all_codes_mean cs h)

@@ -24,11 +24,11 @@ abbrev pub body_value : Bool → ℕ → List ℕ → Option (List ℕ)
 body_value is_bytes quote rest = option_map (all_stand_for is_bytes) (items_of is_bytes quote 0 rest)
 
 -- the UTF-8 bytes of the text that a literal stands for
-unfoldable pub text_value : List ℕ → Option (List ℕ)
-text_value [] = None
-text_value (quote ∷ rest) = if is_quote quote then body_value false quote rest else None
+unfoldable pub text_literal_value : List ℕ → Option (List ℕ)
+text_literal_value [] = None
+text_literal_value (quote ∷ rest) = if is_quote quote then body_value false quote rest else None
 
 -- the bytes that a literal stands for
-unfoldable pub bytes_value : List ℕ → Option (List ℕ)
-bytes_value (b ∷ quote ∷ rest) = if (b == 98) && is_quote quote then body_value true quote rest else None
-bytes_value _ = None
+unfoldable pub bytes_literal_value : List ℕ → Option (List ℕ)
+bytes_literal_value (b ∷ quote ∷ rest) = if (b == 98) && is_quote quote then body_value true quote rest else None
+bytes_literal_value _ = None

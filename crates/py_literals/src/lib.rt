@@ -10,7 +10,7 @@ mod texts;
 
 pub use int::int_literal;
 pub use laws::{
-    escapes_are_read_back, literals_have_one_reading, literals_have_values,
-    only_literals_have_values,
+    decimal_ints_are_read_back, escapes_are_read_back, literals_have_one_reading,
+    literals_have_values, only_literals_have_values,
 };
 pub use texts::{bytes_literal, text_literal};
