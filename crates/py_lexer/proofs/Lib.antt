@@ -1,9 +1,15 @@
 pub mod Examples
+pub mod Following
+pub mod FrontLaws
+pub mod ItemFronts
 pub mod LayoutLaws
 pub mod LiteralLaws
+pub mod MatchLaw
 pub mod MoveLaws
 pub mod OrderLaws
 pub mod PieceLaws
+pub mod PieceShapes
 pub mod ReadingLaws
 pub mod SignLaws
 pub mod SizeLaws
+pub mod SpelledLaw

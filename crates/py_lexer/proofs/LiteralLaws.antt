@@ -31,7 +31,7 @@ skip q b zero text = sym (unmoved (literal_size q b 0 text))
 skip q b (suc k) [] = refl
 skip q b (suc k) (c ∷ cs) = ap (option_map (λ n. 1 + n)) (skip q b k cs) ∙ moved k (literal_size q b 0 (drop k cs))
 
-quoted : (q : ℕ) (b : Bool) (c : ℕ) (cs : List ℕ) → c == q ≡ true → literal_size q b 0 (c ∷ cs) ≡ Some 1
+pub quoted : (q : ℕ) (b : Bool) (c : ℕ) (cs : List ℕ) → c == q ≡ true → literal_size q b 0 (c ∷ cs) ≡ Some 1
 unfolding literal_size
 quoted q b c cs e = rw e refl
 
@@ -40,7 +40,7 @@ unquoted : (q : ℕ) (b : Bool) (c : ℕ) (cs : List ℕ) (item : Option ℕ) �
 unfolding literal_size
 unquoted q b c cs item e is = rw (e, is) refl
 
-one_item : (q : ℕ) (b : Bool) (c : ℕ) (cs : List ℕ) (n : ℕ) → c == q ≡ false → item_size b (c ∷ cs) ≡ Some (suc n)
+pub one_item : (q : ℕ) (b : Bool) (c : ℕ) (cs : List ℕ) (n : ℕ) → c == q ≡ false → item_size b (c ∷ cs) ≡ Some (suc n)
     → literal_size q b 0 (c ∷ cs) ≡ option_map (λ m. suc n + m) (literal_size q b 0 (drop n cs))
 one_item q b c cs n e is =
     let back : suc n - 1 ≡ n = omega arith in

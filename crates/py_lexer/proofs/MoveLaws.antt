@@ -68,7 +68,7 @@ matched_stays w p q h = by_test (top q.indents == w)
     by_test true = h
     by_test false = tt
 
-settled_stays : (p : Place) → Goes (Stays p) (settled p)
+pub settled_stays : (p : Place) → Goes (Stays p) (settled p)
 unfolding settled indented
 settled_stays p = by_margin p.margin
   where

@@ -25,7 +25,7 @@ pub read_end : (p : Place) (at : ℕ) (text : List ℕ) → length text ≤ at �
 unfolding read_on
 read_end p at text h = let e : drop at text ≡ [] = grind (arith, common_steps) in ap (read_on p 0) e
 
-one_piece : (p : Place) (c : ℕ) (cs : List ℕ) (next : Next) → taken (piece_of (c ∷ cs)) p ≡ next → read_on p 0 (c ∷ cs) ≡ go_on (λ q. read_on q ((piece_of (c ∷ cs)).size - 1) cs) next
+pub one_piece : (p : Place) (c : ℕ) (cs : List ℕ) (next : Next) → taken (piece_of (c ∷ cs)) p ≡ next → read_on p 0 (c ∷ cs) ≡ go_on (λ q. read_on q ((piece_of (c ∷ cs)).size - 1) cs) next
 unfolding read_on
 one_piece p c cs next e = ap (go_on (λ q. read_on q ((piece_of (c ∷ cs)).size - 1) cs)) e
 

@@ -1,8 +1,10 @@
 pub mod Computing
 pub mod Items
 pub mod Layout
+pub mod Lines
 pub mod Literals
 pub mod Order
 pub mod Pieces
 pub mod Reading
+pub mod Slices
 pub mod Spellings

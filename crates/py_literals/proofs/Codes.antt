@@ -1,12 +1,12 @@
 -- Four hex digits as two bytes, and which of them are no surrogate.
 use Rattle.std.proofs.Math.Utf8.{low_scalar}
-use Rattle.std.proofs.Common.{◌≡◌, ◌∙◌, ◌<◌, ◌≤◌, ◌⊎◌, inl, inr, subst, ◌+◌, ◌*◌, ℕ, List, [], ◌∷◌, codes, Bool, true, false, nat_lt, not, ◌==◌, ◌&&◌, Option, Some, None, refl, sym, ap, arith}
+use Rattle.std.proofs.Common.{◌≡◌, ◌∙◌, ◌<◌, ◌≤◌, ◌⊎◌, inl, inr, subst, ◌+◌, ◌*◌, ℕ, [], ◌∷◌, codes, Bool, true, false, nat_lt, not, ◌==◌, ◌&&◌, Option, Some, None, refl, sym, ap, arith}
 use Rattle.std.specs.Prelude.{if◌then◌else◌}
 use Rattle.std.specs.Int.{is_in_range}
 use Rattle.std.specs.Char.{IsScalar, InScalarRange, OutOfScalarRange}
 use Rattle.std.specs.Prelude.{SomeIff, MatchOption}
 use Rattle.std.proofs.lemmas.Bool.Decides.{nat_tests}
-use Rattle.py_lexer.specs.Spellings.{is_of, is_some, hex_digit, count_in, hex_natural}
+use Rattle.py_lexer.specs.Spellings.{is_of, hex_digit, count_in, hex_natural}
 use Rattle.py_lexer.specs.Literals.{is_hex, is_code, is_surrogate}
 
 pub counts_below : (a : ℕ) → count_in (hex_digit a) < 16
@@ -73,10 +73,10 @@ four_digits a b c d = omega arith
 
 -- ---- a code is one of a character where it is no surrogate
 
-same_test : (a b : ℕ) → is_hex a ≡ true → is_hex b ≡ true → is_surrogate a b ≡ (count_in (hex_digit a) == 13) && not (nat_lt (count_in (hex_digit b)) 8)
+pub same_test : (a b : ℕ) → is_hex a ≡ true → is_hex b ≡ true → is_surrogate a b ≡ (count_in (hex_digit a) == 13) && not (nat_lt (count_in (hex_digit b)) 8)
 same_test a b h k = ap (λ (t : Bool). t && not (is_in_range 48 55 b)) (letter_d a h) ∙ ap (λ (t : Bool). (count_in (hex_digit a) == 13) && not t) (below_eight b k)
 
-no_surrogate : (a b h l : ℕ) → a < 16 → b < 16 → l < 256 → h ≡ a * 16 + b → InScalarRange (h * 256 + l) → (a == 13) && not (nat_lt b 8) ≡ false
+pub no_surrogate : (a b h l : ℕ) → a < 16 → b < 16 → l < 256 → h ≡ a * 16 + b → InScalarRange (h * 256 + l) → (a == 13) && not (nat_lt b 8) ≡ false
 no_surrogate a b h l x y z e r = by_test (a == 13) (nat_lt b 8) refl refl r
   where
     by_test : (s t : Bool) → (a == 13) ≡ s → nat_lt b 8 ≡ t → InScalarRange (h * 256 + l) → s && not t ≡ false

@@ -1,4 +1,7 @@
 pub mod Codes
+pub mod Examples
+pub mod IntLaws
 pub mod ItemLaws
 pub mod ReadLaws
 pub mod Utf8
+pub mod WholeLaws

@@ -1,18 +1,17 @@
 -- The text that a literal stands for is UTF-8, as the literal is.
-use Rattle.std.proofs.Common.{◌≡◌, ◌∙◌, ◌<◌, ◌≤◌, ◌+◌, ◌*◌, ◌==◌, ◌&&◌, ◌||◌, not, nat_lt, ℕ, zero, suc, List, [], ◌∷◌, ◌++◌, length, take, drop, get_or, codes, Bool, true, false, Option, Some, None, option_map, encode_utf8, append-nil, inl, inr, refl, sym, ap, subst, arith}
+use Rattle.std.proofs.Common.{◌≡◌, ◌<◌, ◌+◌, ◌&&◌, ℕ, List, [], ◌∷◌, ◌++◌, length, get_or, Bool, true, false, Option, Some, None, option_map, encode_utf8, append-nil, refl, sym, subst, arith}
 use Rattle.std.specs.Prelude.{if◌then◌else◌}
-use Rattle.std.specs.List.{flat_map}
 use Rattle.std.specs.Str.{IsUtf8}
 use Rattle.std.specs.Char.{IsScalar}
 use Rattle.std.proofs.Math.Utf8.{low_scalar}
 use Rattle.std.proofs.Math.Seq.{get_or-append_seam, drop-append-add}
 use Rattle.std.proofs.lemmas.List.{append_assoc, take_at, length-append}
 use Rattle.std.proofs.lemmas.Bool.Decides.{nat_tests}
-use Rattle.std.proofs.lemmas.Str.{IsUtf8-append, IsUtf8-nil, IsUtf8-take, IsUtf8-drop, IsUtf8-encode, IsUtf8-from_ascii, encode_ascii, IsCharBoundary-before_ascii, IsCharBoundary-after_ascii}
-use Rattle.py_lexer.specs.Items.{Item, Byte, Mark, Hex, Code, spelled, is_plain, is_mark, may_stand, all_may_stand, body}
-use Rattle.py_lexer.specs.Literals.{is_hex, is_code, is_surrogate}
-use Rattle.py_lexer.specs.Spellings.{is_quote, hex_natural, hex_digit, count_in}
-use Rattle.py_literals.specs.Values.{marked, stands_for, all_stand_for, text_value, body_value}
+use Rattle.std.proofs.lemmas.Str.{IsUtf8-append, IsUtf8-take, IsUtf8-drop, IsUtf8-encode, encode_ascii, IsCharBoundary-before_ascii, IsCharBoundary-after_ascii}
+use Rattle.py_lexer.specs.Items.{Item, Byte, Mark, Hex, Code, is_mark, may_stand, all_may_stand, body}
+use Rattle.py_lexer.specs.Literals.{is_hex}
+use Rattle.py_lexer.specs.Spellings.{is_quote, hex_natural}
+use Rattle.py_literals.specs.Values.{marked, all_stand_for, text_literal_value}
 use Rattle.py_literals.proofs.Codes.{counts_below, plain_code, code_scalar}
 use Rattle.py_literals.proofs.ReadLaws.{items_spell}
 use Rattle.py_literals.specs.Reading.{items_of}
@@ -83,8 +82,8 @@ items_utf8 q (Code a b c d ∷ is) front low s u =
 quote_low : (q : ℕ) → is_quote q ≡ true → q < 128
 quote_low q h = grind (arith, nat_tests)
 
-pub text_utf8 : (text v : List ℕ) → IsUtf8 text → text_value text ≡ Some v → IsUtf8 v
-unfolding text_value
+pub text_utf8 : (text v : List ℕ) → IsUtf8 text → text_literal_value text ≡ Some v → IsUtf8 v
+unfolding text_literal_value
 text_utf8 [] v u e = cc
 text_utf8 (q ∷ rest) v u e = by_test (is_quote q) (items_of false q 0 rest) refl refl e
   where

@@ -7,5 +7,5 @@ use Rattle.py_lexer.specs.Spellings.{begins, hex_natural, is_int}
 abbrev pub number_of : List ℕ → ℕ
 number_of text = if begins text (codes "0x") then hex_natural (drop 2 text) else natural text
 
-unfoldable pub int_value : List ℕ → Option ℤ
-int_value text = if is_int text then Some (pos (number_of text)) else None
+unfoldable pub int_literal_value : List ℕ → Option ℤ
+int_literal_value text = if is_int text then Some (pos (number_of text)) else None

@@ -1,5 +1,6 @@
 pub mod Computing
 pub mod IntValues
+pub mod Laws
 pub mod Meanings
 pub mod Reading
 pub mod Values

@@ -1,7 +1,6 @@
 -- What the code keeps of an item.
-use Rattle.std.specs.Prelude.{ℕ, Bool, List, [], ◌∷◌, length, Option, Some, None, if◌then◌else◌, ◌&&◌, encode_utf8}
-use Rattle.py_lexer.specs.Items.{Item, Hex, Code, spelled}
-use Rattle.py_lexer.specs.Literals.{is_hex, is_code}
+use Rattle.std.specs.Prelude.{ℕ, Bool, List, [], ◌∷◌, length, encode_utf8}
+use Rattle.py_lexer.specs.Items.{Item, spelled}
 use Rattle.py_literals.specs.declared.item.Meaning.{Meaning}
 use Rattle.py_literals.specs.declared.item.Meaning.TheVariants as meanings
 use Rattle.py_literals.specs.declared.item.Found.{Found}

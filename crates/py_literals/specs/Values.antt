@@ -1,5 +1,5 @@
 -- What texts and byte strings stand for, by what each of their items stands for.
-use Rattle.std.specs.Prelude.{ℕ, Bool, true, false, ◌==◌, ◌&&◌, List, [], ◌∷◌, Option, Some, None, option_map, if◌then◌else◌, encode_utf8}
+use Rattle.std.specs.Prelude.{ℕ, Bool, true, false, ◌==◌, ◌&&◌, List, [], ◌∷◌, Option, None, option_map, if◌then◌else◌, encode_utf8}
 use Rattle.std.specs.List.{flat_map}
 use Rattle.py_lexer.specs.Items.{Item, Byte, Mark, Hex, Code}
 use Rattle.py_lexer.specs.Spellings.{is_quote, hex_natural}
@@ -24,11 +24,11 @@ abbrev pub body_value : Bool → ℕ → List ℕ → Option (List ℕ)
 body_value is_bytes quote rest = option_map (all_stand_for is_bytes) (items_of is_bytes quote 0 rest)
 
 -- the UTF-8 bytes of the text that a literal stands for
-unfoldable pub text_value : List ℕ → Option (List ℕ)
-text_value [] = None
-text_value (quote ∷ rest) = if is_quote quote then body_value false quote rest else None
+unfoldable pub text_literal_value : List ℕ → Option (List ℕ)
+text_literal_value [] = None
+text_literal_value (quote ∷ rest) = if is_quote quote then body_value false quote rest else None
 
 -- the bytes that a literal stands for
-unfoldable pub bytes_value : List ℕ → Option (List ℕ)
-bytes_value (b ∷ quote ∷ rest) = if (b == 98) && is_quote quote then body_value true quote rest else None
-bytes_value _ = None
+unfoldable pub bytes_literal_value : List ℕ → Option (List ℕ)
+bytes_literal_value (b ∷ quote ∷ rest) = if (b == 98) && is_quote quote then body_value true quote rest else None
+bytes_literal_value _ = None

@@ -1,14 +1,14 @@
 ghost use Rattle.std.specs.Prelude.{◌≡◌, pos, Some, None, if◌then◌else◌};
 ghost use Rattle.py_lexer.specs.Spellings.{hex_digit, hex_natural, is_hex_int};
-ghost use Rattle.py_literals.specs.IntValues.{int_value};
+ghost use Rattle.py_literals.specs.IntValues.{int_literal_value};
 
 use py_ints::read_int;
 
 /// The value of an int literal: `0`, decimal digits without a 0 in front, or `0x` and hex digits, at most 2^127 - 1. None
 /// where the text is no such literal. Time is linear in the text.
-#[tactic(auto, unfolding(crate::specs::IntValues::int_value, py_lexer::specs::Spellings::is_int))]
+#[tactic(auto, unfolding(crate::specs::IntValues::int_literal_value, py_lexer::specs::Spellings::is_int))]
 pub fn int_literal(text: &[u8]) -> Option<i128>
-    ensures { result ≡ int_value text.now }
+    ensures { result ≡ int_literal_value text.now }
 {
     match text {
         [b'0'] => Some(0),
@@ -28,7 +28,9 @@ fn hex_value(digits: &[u8]) -> Option<i128>
     }
     let mut number = 0u128;
     for digit in digits {
-        number = number.saturating_mul(16).saturating_add(u128::from(hex_digit(*digit)?));
+        number = number
+            .saturating_mul(16)
+            .saturating_add(u128::from(hex_digit(*digit)?));
     }
     i128::try_from(number).ok()
 }

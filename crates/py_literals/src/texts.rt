@@ -1,5 +1,5 @@
 ghost use Rattle.std.specs.Prelude.{◌≡◌, IfOk, IsUtf8, Some, None, option_map, if◌then◌else◌};
-ghost use Rattle.py_literals.specs.Values.{body_value, bytes_value, text_value};
+ghost use Rattle.py_literals.specs.Values.{body_value, bytes_literal_value, text_literal_value};
 
 use crate::item::item_in_front;
 use rp_base::{Blob, NoMemory, Text};
@@ -7,7 +7,7 @@ use std::alloc::Global;
 
 /// The text that a text literal stands for. None where the text is no such literal. Time is linear in the literal.
 pub fn text_literal(alloc: Global, text: &str) -> Result<Option<Text>, NoMemory>
-    ensures { IfOk result (λ found. found ≡ text_value text.now) }
+    ensures { IfOk result (λ found. found ≡ text_literal_value text.now) }
 {
     let Some(bytes) = text_bytes(alloc, text.as_bytes())? else {
         return Ok(None);
@@ -16,9 +16,9 @@ pub fn text_literal(alloc: Global, text: &str) -> Result<Option<Text>, NoMemory>
 }
 
 /// The bytes of the text that a text literal stands for.
-#[tactic(auto, unfolding(crate::specs::Values::text_value))]
+#[tactic(auto, unfolding(crate::specs::Values::text_literal_value))]
 fn text_bytes(alloc: Global, text: &[u8]) -> Result<Option<Vec<u8>>, NoMemory>
-    ensures { IfOk result (λ found. option_map (λ v. v.items) found ≡ text_value text.now) }
+    ensures { IfOk result (λ found. option_map (λ v. v.items) found ≡ text_literal_value text.now) }
 {
     let [quote @ (b'\'' | b'"'), rest @ ..] = text else {
         return Ok(None);
@@ -38,9 +38,9 @@ fn text_of(bytes: Vec<u8>) -> Option<Text>
 
 /// The byte string that a bytes literal stands for. None where the text is no such literal. Time is linear in the
 /// literal.
-#[tactic(auto, unfolding(crate::specs::Values::bytes_value))]
+#[tactic(auto, unfolding(crate::specs::Values::bytes_literal_value))]
 pub fn bytes_literal(alloc: Global, text: &[u8]) -> Result<Option<Blob>, NoMemory>
-    ensures { IfOk result (λ found. found ≡ bytes_value text.now) }
+    ensures { IfOk result (λ found. found ≡ bytes_literal_value text.now) }
 {
     let [b'b', quote @ (b'\'' | b'"'), rest @ ..] = text else {
         return Ok(None);

@@ -1,5 +1,5 @@
-use Rattle.std.proofs.Common.{◌≡◌, ◌∙◌, sym, ap, ℕ, List, ◌∷◌, [], false, Some, option_map, encode_utf8}
-use Rattle.py_lexer.specs.Items.{Item, Code}
+use Rattle.std.proofs.Common.{◌∙◌, sym, ap, ℕ, ◌∷◌, [], false, Some, option_map, encode_utf8}
+use Rattle.py_lexer.specs.Items.{Code}
 use Rattle.py_lexer.specs.Literals.{is_code}
 use Rattle.py_lexer.specs.Spellings.{hex_natural}
 use Rattle.py_literals.specs.declared.item.Found.{Found}

@@ -1,4 +1,4 @@
-use Rattle.std.proofs.Common.{◌≡◌, ◌∙◌, ◌++◌, sym, ap, arith, ℕ, List, Some, option_map}
+use Rattle.std.proofs.Common.{◌∙◌, ◌++◌, sym, ap, option_map}
 use Rattle.py_literals.specs.Meanings.{meant}
 use Rattle.py_literals.proofs.ItemLaws.{closed_at, bad_at, item_behind, end_at}
 use Rattle.py_literals.proofs.texts.body.Goals as goal
