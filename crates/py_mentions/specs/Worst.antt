@@ -38,7 +38,7 @@ worse None r = r
 worse (Some w) r = if precedes r w then r else w
 
 -- the worst of one and these
-unfoldable pub worst_with : Option Refused → List Refused → Option Refused
+abbrev pub worst_with : Option Refused → List Refused → Option Refused
 worst_with w [] = w
 worst_with w (r ∷ rs) = worst_with (Some (worse w r)) rs
 

@@ -1,6 +1,7 @@
 //! Where a script's tree mentions a name, and where it breaks a rule that a place with its surroundings shows.
 #![tactic(auto)]
 
+mod breaking;
 mod mention;
 mod mentioning;
 mod names;
