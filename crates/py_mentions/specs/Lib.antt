@@ -2,5 +2,6 @@ pub mod Mentions
 pub mod Parts
 pub mod Rules
 pub mod Surroundings
+pub mod Tasks
 pub mod Walks
 pub mod Worst

@@ -12,12 +12,20 @@ use rp_base::{Plain, Refused, Rule};
 
 /// The worst of `worst` and what the node of this number breaks.
 #[tactic(auto, using(crate::proofs::WorstLaws::worst_more), unfolding(crate::specs::Rules::broken_at))]
-pub fn worst_at(worst: Option<Refused>, program: &Program, constructs: &[Construct], role: Role, number: u32) -> Option<Refused>
+pub fn worst_at(
+    worst: Option<Refused>,
+    program: &Program,
+    constructs: &[Construct],
+    role: Role,
+    number: u32,
+) -> Option<Refused>
     ensures { result ≡ worst_with worst (broken_at program.now constructs.now role number) }
 {
     let line = line_of(program, number);
     match program.nodes.get(number as usize) {
-        Some(Node::Expression(expression)) => expression_breaks(worst, program, constructs, role, line, expression),
+        Some(Node::Expression(expression)) => expression_breaks(
+            worst, program, constructs, role, line, expression,
+        ),
         Some(Node::Statement(statement)) => {
             let worst = own_breaks(worst, program, constructs, role, line, statement);
             member_breaks(worst, program, role, line, statement)
@@ -36,7 +44,12 @@ fn unless(worst: Option<Refused>, is_kept: bool, line: u32, rule: Rule) -> Optio
     Some(worse(worst, Refused { line, rule }))
 }
 
-fn builtin_breaks(worst: Option<Refused>, builtin: Builtin, role: Role, line: u32) -> Option<Refused>
+fn builtin_breaks(
+    worst: Option<Refused>,
+    builtin: Builtin,
+    role: Role,
+    line: u32,
+) -> Option<Refused>
     ensures { result ≡ worst_with worst (builtin_breaks builtin role line) }
 {
     match role {
@@ -48,7 +61,12 @@ fn builtin_breaks(worst: Option<Refused>, builtin: Builtin, role: Role, line: u3
 fn name_breaks(worst: Option<Refused>, name: &Name) -> Option<Refused>
     ensures { result ≡ worst_with worst (name_breaks name.now) }
 {
-    unless(worst, !is_reserved(name.text.as_str().as_bytes()), name.line, Rule::S2)
+    unless(
+        worst,
+        !is_reserved(name.text.as_str().as_bytes()),
+        name.line,
+        Rule::S2,
+    )
 }
 
 fn maybe_name_breaks(worst: Option<Refused>, name: &Option<Name>) -> Option<Refused>
@@ -136,7 +154,9 @@ fn statement_binds(program: &Program, name: &[u8], number: u32) -> bool
     ensures { result ≡ statement_binds program.now name.now (slice_get program.now.nodes number) }
 {
     match program.nodes.get(number as usize) {
-        Some(Node::Statement(Statement::Assign { target, .. })) => target_binds(program, name, *target),
+        Some(Node::Statement(Statement::Assign { target, .. })) => target_binds(
+            program, name, *target,
+        ),
         Some(Node::Statement(Statement::Def(function))) => function_binds(program, name, *function),
         _ => false,
     }
@@ -159,12 +179,22 @@ fn class_binds(program: &Program, name: &[u8], class: Option<u32>) -> bool
 {
     let Some(suite) = class else { return false };
     match program.nodes.get(suite as usize) {
-        Some(Node::Statement(Statement::Suite(statements))) => any_binds(program, name, statements.as_slice()),
+        Some(Node::Statement(Statement::Suite(statements))) => any_binds(
+            program,
+            name,
+            statements.as_slice(),
+        ),
         _ => false,
     }
 }
 
-fn read_breaks(worst: Option<Refused>, program: &Program, constructs: &[Construct], line: u32, name: &[u8]) -> Option<Refused>
+fn read_breaks(
+    worst: Option<Refused>,
+    program: &Program,
+    constructs: &[Construct],
+    line: u32,
+    name: &[u8],
+) -> Option<Refused>
     ensures { result ≡ worst_with worst (read_breaks program.now constructs.now line name.now) }
 {
     let is_bound = class_binds(program, name, class_at(constructs));
@@ -200,7 +230,13 @@ fn fits_class(program: &Program, statement: &Statement) -> bool
     }
 }
 
-fn member_breaks(worst: Option<Refused>, program: &Program, role: Role, line: u32, statement: &Statement) -> Option<Refused>
+fn member_breaks(
+    worst: Option<Refused>,
+    program: &Program,
+    role: Role,
+    line: u32,
+    statement: &Statement,
+) -> Option<Refused>
     ensures { result ≡ worst_with worst (member_breaks program.now role line statement.now) }
 {
     match role {
@@ -243,7 +279,14 @@ fn parameters_break(worst: Option<Refused>, program: &Program, function: u32) ->
 }
 
 #[tactic(auto, using(crate::proofs::WorstLaws::worst_more))]
-fn expression_breaks(worst: Option<Refused>, program: &Program, constructs: &[Construct], role: Role, line: u32, expression: &Expression) -> Option<Refused>
+fn expression_breaks(
+    worst: Option<Refused>,
+    program: &Program,
+    constructs: &[Construct],
+    role: Role,
+    line: u32,
+    expression: &Expression,
+) -> Option<Refused>
     ensures { result ≡ worst_with worst (expression_breaks program.now constructs.now role line expression.now) }
 {
     match expression {
@@ -288,15 +331,30 @@ fn is_at_top(role: Role) -> bool
 }
 
 #[tactic(auto, using(crate::proofs::WorstLaws::worst_more))]
-fn own_breaks(worst: Option<Refused>, program: &Program, constructs: &[Construct], role: Role, line: u32, statement: &Statement) -> Option<Refused>
+fn own_breaks(
+    worst: Option<Refused>,
+    program: &Program,
+    constructs: &[Construct],
+    role: Role,
+    line: u32,
+    statement: &Statement,
+) -> Option<Refused>
     ensures { result ≡ worst_with worst (own_breaks program.now constructs.now role line statement.now) }
 {
     match statement {
         Statement::Return(_) => unless(worst, may_return(constructs), line, Rule::S10),
-        Statement::Break | Statement::Continue => unless(worst, may_break(constructs), line, Rule::S10),
+        Statement::Break | Statement::Continue => unless(
+            worst,
+            may_break(constructs),
+            line,
+            Rule::S10,
+        ),
         Statement::RaiseAgain => unless(worst, may_raise(constructs), line, Rule::S7),
         Statement::RaiseCall { name, arguments } => raise_breaks(worst, name, arguments.as_slice()),
-        Statement::Global(names) | Statement::Nonlocal(names) => names_break(worst, names.as_slice()),
+        Statement::Global(names) | Statement::Nonlocal(names) => names_break(
+            worst,
+            names.as_slice(),
+        ),
         Statement::Except { kinds, .. } => {
             let worst = unless(worst, may_be_bare(role, kinds.as_slice()), line, Rule::S7);
             kinds_break(worst, kinds.as_slice())

@@ -1,4 +1,4 @@
-use Rattle.std.proofs.Common.{◌≡◌, [], drop, take, ◌++◌, map}
+use Rattle.std.proofs.Common.{◌≡◌, drop}
 use Rattle.std.specs.Prelude.{flat_map}
 use Rattle.py_mentions.specs.Worst.{worst_with}
 use Rattle.py_mentions.specs.Rules.{link_breaks}

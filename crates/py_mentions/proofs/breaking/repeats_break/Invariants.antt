@@ -1,5 +1,4 @@
-use Rattle.std.proofs.Common.{◌≡◌, [], drop, take, ◌++◌, map}
-use Rattle.std.specs.Prelude.{flat_map}
+use Rattle.std.proofs.Common.{◌≡◌, [], drop, take}
 use Rattle.py_mentions.specs.Worst.{worst_with}
 use Rattle.py_mentions.specs.Rules.{repeat_breaks}
 use Rattle.py_mentions.proofs.breaking.repeats_break.Given as goal
