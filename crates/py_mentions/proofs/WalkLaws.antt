@@ -14,8 +14,7 @@ use Rattle.py_mentions.specs.declared.place.Role.TheVariants as role
 use Rattle.py_mentions.specs.Parts.{part, parts}
 use Rattle.py_mentions.specs.Mentions.{mentions_at}
 use Rattle.py_mentions.specs.Rules.{broken_at}
-use Rattle.py_mentions.specs.Worst.{worst, worst_with}
-use Rattle.py_mentions.proofs.WorstLaws.{worst_more}
+use Rattle.py_mentions.specs.Worst.{worst, worst_more, worst_with}
 use Rattle.py_mentions.specs.Tasks.{leaves, outside, task_finds, constructs_after, tasks_after, todo}
 use Rattle.py_mentions.specs.Walks.{Finds, broken_in, found_in, mentions_in, smaller, smaller_parts, walk, within}
 

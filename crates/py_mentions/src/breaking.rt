@@ -11,7 +11,7 @@ use py_ast::{Builtin, Comparison, Expression, Link, Name, Node, Program, Stateme
 use rp_base::{Plain, Refused, Rule};
 
 /// The worst of `worst` and what the node of this number breaks.
-#[tactic(auto, using(crate::proofs::WorstLaws::worst_more), unfolding(crate::specs::Rules::broken_at))]
+#[tactic(auto, using(crate::specs::Worst::worst_more), unfolding(crate::specs::Rules::broken_at))]
 pub fn worst_at(
     worst: Option<Refused>,
     program: &Program,
@@ -78,7 +78,7 @@ fn maybe_name_breaks(worst: Option<Refused>, name: &Option<Name>) -> Option<Refu
     }
 }
 
-#[tactic(auto, using(crate::proofs::WorstLaws::worst_more))]
+#[tactic(auto, using(crate::specs::Worst::worst_more))]
 fn names_break(worst: Option<Refused>, names: &[Name]) -> Option<Refused>
     ensures { result ≡ worst_with worst (flat_map name_breaks names.now) }
 {
@@ -90,7 +90,7 @@ fn names_break(worst: Option<Refused>, names: &[Name]) -> Option<Refused>
 }
 
 /// The names in an `except`.
-#[tactic(auto, using(crate::proofs::WorstLaws::worst_more))]
+#[tactic(auto, using(crate::specs::Worst::worst_more))]
 fn kinds_break(worst: Option<Refused>, names: &[Name]) -> Option<Refused>
     ensures { result ≡ worst_with worst (flat_map kind_breaks names.now) }
 {
@@ -120,7 +120,7 @@ fn asks_identity(comparison: Comparison) -> bool
     }
 }
 
-#[tactic(auto, using(crate::proofs::WorstLaws::worst_more))]
+#[tactic(auto, using(crate::specs::Worst::worst_more))]
 fn links_break(worst: Option<Refused>, program: &Program, links: &[Link]) -> Option<Refused>
     ensures { result ≡ worst_with worst (flat_map (link_breaks program.now) links.now) }
 {
@@ -256,7 +256,7 @@ fn has_name(name: &[u8], names: &[Name]) -> bool
     false
 }
 
-#[tactic(auto, using(crate::proofs::WorstLaws::worst_more))]
+#[tactic(auto, using(crate::specs::Worst::worst_more))]
 fn repeats_break(worst: Option<Refused>, names: &[Name]) -> Option<Refused>
     ensures { result ≡ worst_with worst (repeat_breaks [] names.now) }
 {
@@ -278,7 +278,7 @@ fn parameters_break(worst: Option<Refused>, program: &Program, function: u32) ->
     }
 }
 
-#[tactic(auto, using(crate::proofs::WorstLaws::worst_more))]
+#[tactic(auto, using(crate::specs::Worst::worst_more))]
 fn expression_breaks(
     worst: Option<Refused>,
     program: &Program,
@@ -330,7 +330,7 @@ fn is_at_top(role: Role) -> bool
     }
 }
 
-#[tactic(auto, using(crate::proofs::WorstLaws::worst_more))]
+#[tactic(auto, using(crate::specs::Worst::worst_more))]
 fn own_breaks(
     worst: Option<Refused>,
     program: &Program,

@@ -2,15 +2,19 @@
 #![tactic(auto)]
 
 mod breaking;
+mod laws;
 mod mention;
 mod mentioning;
 mod names;
 mod parts;
 mod place;
 mod surroundings;
+#[cfg(test)]
+mod tests;
 mod walk;
 mod worst;
 
+pub use laws::{each_node_is_visited, nothing_precedes_the_worst};
 pub use mention::{Form, Mention, Places};
 pub use names::{exception_named, is_exception, is_reserved, takes};
 pub use walk::places;

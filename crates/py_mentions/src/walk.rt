@@ -4,7 +4,7 @@ ghost use Rattle.py_mentions.specs.Parts.{part};
 ghost use Rattle.py_mentions.specs.Rules.{broken_at};
 ghost use Rattle.py_mentions.specs.Tasks.{constructs_after, leaves, task_finds, tasks_after};
 ghost use Rattle.py_mentions.specs.Walks.{broken_in, mentions_in, smaller, smaller_parts, within};
-ghost use Rattle.py_mentions.specs.Worst.{worst, worst_with};
+ghost use Rattle.py_mentions.specs.Worst.{worst, worst_more, worst_with};
 
 use crate::breaking::worst_at;
 use crate::mention::{Mention, Places};
