@@ -1,0 +1,106 @@
+-- The names that a node itself mentions, in written order.
+use Rattle.std.specs.Prelude.{ℕ, false, List, [], ◌∷◌, ◌++◌, map, length, Option, Some, None, slice_get}
+use Rattle.py_ast.specs.Builtins.{builtin_name}
+use Rattle.py_ast.specs.declared.name.Name.{Name}
+use Rattle.py_ast.specs.declared.expression.Expression.{Expression}
+use Rattle.py_ast.specs.declared.expression.Expression.TheVariants as expression
+use Rattle.py_ast.specs.declared.target.Target.{Target}
+use Rattle.py_ast.specs.declared.target.Target.TheVariants as target
+use Rattle.py_ast.specs.declared.statement.Statement.{Statement}
+use Rattle.py_ast.specs.declared.statement.Statement.TheVariants as statement
+use Rattle.py_ast.specs.declared.node.Node.{Node}
+use Rattle.py_ast.specs.declared.node.Node.TheVariants as node
+use Rattle.py_ast.specs.declared.program.FunctionInfo.{FunctionInfo}
+use Rattle.py_ast.specs.declared.program.Program.{Program}
+use Rattle.py_mentions.specs.declared.mention.Form.{Form}
+use Rattle.py_mentions.specs.declared.mention.Form.TheVariants as form
+use Rattle.py_mentions.specs.declared.mention.Mention.{Mention}
+use Rattle.py_mentions.specs.declared.place.Construct.{Construct}
+use Rattle.py_mentions.specs.declared.place.Role.{Role}
+use Rattle.py_mentions.specs.declared.place.Role.TheVariants as role
+use Rattle.py_mentions.specs.Surroundings.{function_at, is_caught}
+
+-- a mention in this function, which is no guarded use of a handler's name
+abbrev pub mention : Option ℕ → Form → ℕ → List ℕ → Mention
+mention f how l t = record { name = t; line = l; function = f; form = how; is_guarded = false }
+
+abbrev pub mention_of : Option ℕ → Form → Name → Mention
+mention_of f how n = mention f how n.line n.text
+
+-- a use that is guarded where a handler of its name stands around
+abbrev pub guarded_use : Program → List Construct → Form → ℕ → List ℕ → Mention
+guarded_use p cs how l t = record { name = t; line = l; function = function_at cs; form = how; is_guarded = is_caught p t cs }
+
+abbrev pub line_or : Option ℕ → ℕ
+line_or None = 0
+line_or (Some l) = l
+
+-- the line of a node
+abbrev pub line_of : Program → ℕ → ℕ
+line_of p n = line_or (slice_get p.lines n)
+
+-- the parameters of a function stand in it
+abbrev pub parameter_mentions : ℕ → List Name → List Mention
+parameter_mentions f ns = map (mention_of (Some f) form.Parameter) ns
+
+abbrev pub lambda_mentions : ℕ → Option FunctionInfo → List Mention
+lambda_mentions f None = []
+lambda_mentions f (Some info) = parameter_mentions f info.parameters
+
+-- ---- expressions and targets
+
+abbrev pub read : Program → List Construct → Role → ℕ → List ℕ → Mention
+read p cs role.Shown l t = guarded_use p cs form.Read l t
+read p cs role.ArgsOf l t = guarded_use p cs form.Read l t
+read p cs _ l t = mention (function_at cs) form.Read l t
+
+abbrev pub expression_mentions : Program → List Construct → Role → ℕ → Expression → List Mention
+expression_mentions p cs r l (expression.Name t) = read p cs r l t ∷ []
+expression_mentions p cs r l (expression.Builtin b) = mention (function_at cs) form.Read l (builtin_name b) ∷ []
+expression_mentions p cs r l (expression.Attribute n t) = mention (function_at cs) form.Attribute l t ∷ []
+expression_mentions p cs r l (expression.Lambda f) = lambda_mentions f (slice_get p.functions f)
+expression_mentions p cs r l _ = []
+
+abbrev pub target_form : Role → Form
+target_form role.Member = form.Member
+target_form _ = form.Target
+
+abbrev pub target_mentions : List Construct → Role → ℕ → Target → List Mention
+target_mentions cs r l (target.Name t) = mention (function_at cs) (target_form r) l t ∷ []
+target_mentions cs r l (target.Attribute n t) = mention (function_at cs) form.Attribute l t ∷ []
+target_mentions cs r l _ = []
+
+-- ---- functions and statements
+
+abbrev pub def_form : Role → ℕ → Form
+def_form role.InClass count = form.Method count
+def_form _ count = form.Function
+
+-- a `def` mentions its name, then its parameters
+abbrev pub def_mentions : List Construct → Role → ℕ → ℕ → Option FunctionInfo → List Mention
+def_mentions cs r l f None = []
+def_mentions cs r l f (Some info) = mention (function_at cs) (def_form r (length info.parameters)) l info.name ∷ parameter_mentions f info.parameters
+
+abbrev pub maybe_mention : Option ℕ → Form → Option Name → List Mention
+maybe_mention f how None = []
+maybe_mention f how (Some n) = mention_of f how n ∷ []
+
+abbrev pub statement_mentions : Program → List Construct → Role → ℕ → Statement → List Mention
+statement_mentions p cs r l (statement.RaiseName n) = guarded_use p cs form.Raised n.line n.text ∷ []
+statement_mentions p cs r l (statement.RaiseCall n es) = mention_of (function_at cs) form.Raised n ∷ []
+statement_mentions p cs r l (statement.Global ns) = map (mention_of (function_at cs) form.Global) ns
+statement_mentions p cs r l (statement.Nonlocal ns) = map (mention_of (function_at cs) form.Nonlocal) ns
+statement_mentions p cs r l (statement.Except kinds name s) = map (mention_of (function_at cs) form.Exception) kinds ++ maybe_mention (function_at cs) form.Caught name
+statement_mentions p cs r l (statement.Def f) = def_mentions cs r l f (slice_get p.functions f)
+statement_mentions p cs r l (statement.Class name base s) = mention_of (function_at cs) form.Class name ∷ maybe_mention (function_at cs) form.Base base
+statement_mentions p cs r l _ = []
+
+abbrev pub node_mentions : Program → List Construct → Role → ℕ → Option Node → List Mention
+node_mentions p cs r l (Some (node.Expression e)) = expression_mentions p cs r l e
+node_mentions p cs r l (Some (node.Target t)) = target_mentions cs r l t
+node_mentions p cs r l (Some (node.Statement s)) = statement_mentions p cs r l s
+node_mentions p cs r l None = []
+
+-- what the node of this number mentions, within these constructs
+unfoldable pub mentions_at : Program → List Construct → Role → ℕ → List Mention
+mentions_at p cs r n = node_mentions p cs r (line_of p n) (slice_get p.nodes n)
