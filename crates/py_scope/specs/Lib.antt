@@ -1,2 +1,4 @@
-pub mod Locals
+pub mod Facts
+pub mod Forms
+pub mod Tables
 pub mod Words

@@ -1,13 +1,11 @@
 -- Names that the language has of its own, and names of Python that are left out.
-use Rattle.std.specs.Prelude.{ℕ, Bool, true, false, not, ◌&&◌, ◌||◌, ◌==◌, nat_lt, List, [], ◌∷◌, codes}
+use Rattle.std.specs.Prelude.{ℕ, Bool, true, false, not, ◌&&◌, ◌||◌, ◌==◌, nat_lt, List, [], ◌∷◌, codes, if◌then◌else◌}
 use Rattle.std.specs.Int.{is_in_range}
 use Rattle.std.specs.List.{starts_with, ends_with}
 use Rattle.std.specs.Option.{is_some}
 use Rattle.std.specs.Str.{bytes_eq}
 use Rattle.py_ast.specs.Builtins.{builtin_of}
-use Rattle.rp_base.specs.Names.{exception_name}
-use Rattle.rp_base.specs.declared.exceptions.ExcKind.{ExcKind}
-use Rattle.rp_base.specs.declared.exceptions.ExcKind.TheVariants as exception
+use Rattle.py_mentions.specs.Rules.{names_exception}
 
 abbrev pub is_one_of : List (List ℕ) → List ℕ → Bool
 is_one_of [] t = false
@@ -15,24 +13,12 @@ is_one_of (word ∷ words) t = bytes_eq t word || is_one_of words t
 
 -- ---- names that may not be bound
 
-abbrev pub exceptions : List ExcKind
-exceptions =
-    exception.Exception ∷ exception.ArithmeticError ∷ exception.ZeroDivisionError ∷ exception.OverflowError ∷ exception.AssertionError ∷ exception.AttributeError ∷ exception.EOFError ∷ exception.ImportError ∷ exception.ModuleNotFoundError ∷ exception.LookupError
-    ∷ exception.IndexError ∷ exception.KeyError ∷ exception.NameError ∷ exception.UnboundLocalError ∷ exception.RuntimeError ∷ exception.NotImplementedError ∷ exception.StopIteration ∷ exception.TypeError ∷ exception.ValueError ∷ []
-
-abbrev pub names_one : List ExcKind → List ℕ → Bool
-names_one [] t = false
-names_one (kind ∷ kinds) t = bytes_eq t (exception_name kind) || names_one kinds t
-
--- an exception class of the language
-unfoldable pub is_exception : List ℕ → Bool
-is_exception t = names_one exceptions t
-
 unfoldable pub is_builtin : List ℕ → Bool
 is_builtin t = is_some (builtin_of t)
 
+-- the name of a builtin function or of an exception class, or NotImplemented
 unfoldable pub is_reserved : List ℕ → Bool
-is_reserved t = is_builtin t || is_exception t || bytes_eq t (codes "NotImplemented")
+is_reserved t = is_builtin t || names_exception t || bytes_eq t (codes "NotImplemented")
 
 -- ---- names that may not occur
 
@@ -54,9 +40,12 @@ abbrev pub begins_with_capital : List ℕ → Bool
 begins_with_capital [] = false
 begins_with_capital (c ∷ cs) = is_in_range 65 90 c
 
--- a name of Python that is left out: one of a list, or spelled as the name of another exception class
+-- spelled as the name of an exception class, which no class of the language has
+abbrev pub is_other_exception : List ℕ → Bool
+is_other_exception t = begins_with_capital t && has_ending endings t && not (names_exception t)
+
 unfoldable pub is_left_out : List ℕ → Bool
-is_left_out t = is_one_of left_out t || (begins_with_capital t && has_ending endings t && not (is_exception t))
+is_left_out t = is_one_of left_out t || is_other_exception t
 
 -- ---- special names
 
@@ -76,8 +65,13 @@ of_key = codes "__getitem__" ∷ codes "__delitem__" ∷ codes "__contains__" �
 unfoldable pub is_operator : List ℕ → Bool
 is_operator t = is_one_of operators t
 
+unfoldable pub takes_key : List ℕ → Bool
+takes_key t = is_operator t || is_one_of of_key t
+
 -- the special methods, with how many parameters each has, the receiver among them
 unfoldable pub is_special : List ℕ → ℕ → Bool
 is_special t count =
-    (bytes_eq t (codes "__init__") && nat_lt 0 count) || (is_one_of of_receiver t && (count == 1))
-    || ((is_operator t || is_one_of of_key t) && (count == 2)) || (bytes_eq t (codes "__setitem__") && (count == 3))
+    if bytes_eq t (codes "__init__") then nat_lt 0 count
+    else if bytes_eq t (codes "__setitem__") then count == 3
+    else if takes_key t then count == 2
+    else (count == 1) && is_one_of of_receiver t

@@ -1,9 +1,9 @@
 //! The rules on names, and the names that each function keeps.
 #![tactic(auto)]
 
+mod classes;
+mod forms;
 mod locals;
 mod mention;
+mod names;
 mod words;
-
-pub use locals::{LocalFacts, LocalTable};
-pub use mention::{Form, Mention};

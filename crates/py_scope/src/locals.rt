@@ -1,23 +1,25 @@
-ghost use Rattle.std.specs.Prelude.{◌≡◌, ℕ, List, IfOk, OnOk};
-ghost use Rattle.std.specs.Option.{unwrap_or};
-ghost use Rattle.py_scope.specs.Locals.{facts_in, noted, nothing, with_use};
+ghost use Rattle.std.specs.Prelude.{◌≡◌, ℕ, List, [], IfOk, OnOk};
+ghost use Rattle.py_scope.specs.Tables.{local_in, local_with, local_noted, KnowsLocals};
 
-use crate::mention::{Form, Mention};
+use crate::forms::{binds, is_global, is_nonlocal, is_parameter, uses};
+use crate::mention::Mention;
 use indexmap::IndexMap;
+use py_mentions::Form;
 use rp_base::NoMemory;
 use std::alloc::Global;
 
 /// What the mentions of a name in a function say of it.
-#[derive(Clone, Copy, Debug, PartialEq, Eq)]
-pub struct LocalFacts {
+#[derive(Clone, Copy)]
+pub(crate) struct LocalFacts {
     pub is_parameter: bool,
     pub is_bound: bool,
     pub is_global: bool,
     pub is_nonlocal: bool,
+    /// It is bound or read.
     pub is_used: bool,
 }
 
-const NOTHING: LocalFacts = LocalFacts {
+const NO_LOCAL: LocalFacts = LocalFacts {
     is_parameter: false,
     is_bound: false,
     is_global: false,
@@ -26,44 +28,64 @@ const NOTHING: LocalFacts = LocalFacts {
 };
 
 impl LocalFacts {
-    /// The facts with one more mention in this form.
+    /// The facts with one mention more, in this form.
     fn with(&self, form: Form) -> LocalFacts
-        ensures { result ≡ noted form self.now }
+        ensures { result ≡ local_with form self.now }
     {
-        match form {
-            Form::Parameter => LocalFacts { is_parameter: true, ..*self },
-            Form::Target | Form::Function | Form::Class => LocalFacts { is_bound: true, is_used: true, ..*self },
-            Form::Global => LocalFacts { is_global: true, ..*self },
-            Form::Nonlocal => LocalFacts { is_nonlocal: true, ..*self },
-            Form::Read | Form::Exception | Form::Raised | Form::Base => LocalFacts { is_used: true, ..*self },
-            _ => *self,
+        LocalFacts {
+            is_parameter: self.is_parameter || is_parameter(form),
+            is_bound: self.is_bound || binds(form),
+            is_global: self.is_global || is_global(form),
+            is_nonlocal: self.is_nonlocal || is_nonlocal(form),
+            is_used: self.is_used || uses(form),
         }
     }
 }
 
-pub struct LocalTable<'a> {
-    pub table: IndexMap<(u32, &'a str), LocalFacts>,
+/// What mentions say of each name in each function.
+pub(crate) struct LocalTable<'a> {
+    pub map: IndexMap<(u32, &'a str), LocalFacts>,
 }
 
 impl<'a> LocalTable<'a> {
-    pub fn new(alloc: Global) -> LocalTable<'a> {
-        LocalTable { table: IndexMap::new(alloc) }
-    }
-
-    pub fn facts(&self, function: u32, name: &'a str) -> LocalFacts
-        ensures { result ≡ facts_in self.now.table function name.now }
+    pub fn new(alloc: Global) -> LocalTable<'a>
+        ensures { result.map.entries ≡ [] }
     {
-        match self.table.get(&(function, name)) {
-            Some(facts) => *facts,
-            None => NOTHING,
+        LocalTable {
+            map: IndexMap::new(alloc),
         }
     }
 
-    pub fn note(&mut self, function: u32, name: &'a str, form: Form) -> Result<(), NoMemory>
-        ensures { OnOk result ((f : ℕ) → (n : List ℕ) → facts_in self.new.table f n ≡ with_use function name.now form f n (facts_in self.old.table f n)) }
+    pub fn facts(&self, function: u32, name: &'a str) -> LocalFacts
+        ensures { result ≡ local_in self.now.map function name.now }
     {
-        let facts = self.facts(function, name).with(form);
-        self.table.insert((function, name), facts)?;
+        match self.map.get(&(function, name)) {
+            Some(facts) => *facts,
+            None => NO_LOCAL,
+        }
+    }
+
+    /// Takes one mention more in.
+    pub fn note(&mut self, mention: &'a Mention) -> Result<(), NoMemory>
+        ensures { OnOk result ((f : ℕ) → (n : List ℕ) → local_in self.new.map f n ≡ local_noted mention.now f n (local_in self.old.map f n)) }
+    {
+        let Some(function) = mention.function else {
+            return Ok(());
+        };
+        let name = mention.name.as_str();
+        let facts = self.facts(function, name).with(mention.form);
+        self.map.insert((function, name), facts)?;
         Ok(())
+    }
+
+    /// What these mentions say.
+    pub fn of(alloc: Global, mentions: &'a [Mention]) -> Result<LocalTable<'a>, NoMemory>
+        ensures { IfOk result (λ t. KnowsLocals mentions.now t.map) }
+    {
+        let mut table = LocalTable::new(alloc);
+        for mention in mentions {
+            table.note(mention)?;
+        }
+        Ok(table)
     }
 }

@@ -1,22 +1,5 @@
+use py_mentions::Form;
 use rp_base::Text;
-
-#[derive(Clone, Copy, Debug, PartialEq, Eq)]
-pub enum Form {
-    Read,
-    Target,
-    Function,
-    Class,
-    Parameter,
-    Caught,
-    Global,
-    Nonlocal,
-    Attribute,
-    Member,
-    Method(u32),
-    Exception,
-    Raised,
-    Base,
-}
 
 #[derive(Drop)]
 pub struct Mention {

@@ -1,30 +1,8 @@
 ghost use Rattle.std.specs.Prelude.{◌≡◌, map};
-ghost use Rattle.py_scope.specs.Words.{is_one_of, names_one, is_exception, is_reserved, has_ending, begins_with_capital, is_left_out, is_private, is_operator, is_special};
+ghost use Rattle.py_scope.specs.Words.{is_one_of, is_reserved, has_ending, begins_with_capital, is_other_exception, is_left_out, is_private, takes_key, is_operator, is_special};
 
 use py_ast::Builtin;
-use rp_base::ExcKind;
-
-const EXCEPTIONS: [ExcKind; 19] = [
-    ExcKind::Exception,
-    ExcKind::ArithmeticError,
-    ExcKind::ZeroDivisionError,
-    ExcKind::OverflowError,
-    ExcKind::AssertionError,
-    ExcKind::AttributeError,
-    ExcKind::EOFError,
-    ExcKind::ImportError,
-    ExcKind::ModuleNotFoundError,
-    ExcKind::LookupError,
-    ExcKind::IndexError,
-    ExcKind::KeyError,
-    ExcKind::NameError,
-    ExcKind::UnboundLocalError,
-    ExcKind::RuntimeError,
-    ExcKind::NotImplementedError,
-    ExcKind::StopIteration,
-    ExcKind::TypeError,
-    ExcKind::ValueError,
-];
+use py_mentions::is_exception;
 
 const LEFT_OUT: [&[u8]; 59] = [
     b"aiter",
@@ -138,32 +116,13 @@ fn is_one_of(words: &[&[u8]], name: &[u8]) -> bool
     false
 }
 
-fn names_one(kinds: &[ExcKind], name: &[u8]) -> bool
-    ensures { result ≡ names_one kinds.now name.now }
-{
-    for kind in kinds {
-        if name == kind.text().as_bytes() {
-            return true;
-        }
-    }
-    false
-}
-
-/// Whether the name is that of an exception class of the language.
-#[tactic(auto, unfolding(crate::specs::Words::is_exception))]
-pub(crate) fn is_exception(name: &str) -> bool
-    ensures { result ≡ is_exception name.now }
-{
-    names_one(&EXCEPTIONS, name.as_bytes())
-}
-
 /// Whether the name is one that no script may bind: a builtin's, an exception class's or `NotImplemented`.
 #[tactic(auto, unfolding(crate::specs::Words::is_reserved, crate::specs::Words::is_builtin))]
 pub(crate) fn is_reserved(name: &str) -> bool
     ensures { result ≡ is_reserved name.now }
 {
     Builtin::from_name(name.as_bytes()).is_some()
-        || is_exception(name)
+        || is_exception(name.as_bytes())
         || name == "NotImplemented"
 }
 
@@ -184,14 +143,19 @@ fn begins_with_capital(name: &[u8]) -> bool
     matches!(name, [b'A'..=b'Z', ..])
 }
 
+/// Whether the name is spelled as that of an exception class, and no exception class of the language has it.
+fn is_other_exception(name: &[u8]) -> bool
+    ensures { result ≡ is_other_exception name.now }
+{
+    begins_with_capital(name) && has_ending(&ENDINGS, name) && !is_exception(name)
+}
+
 /// Whether the name is one of Python that is left out.
 #[tactic(auto, unfolding(crate::specs::Words::is_left_out))]
 pub(crate) fn is_left_out(name: &str) -> bool
     ensures { result ≡ is_left_out name.now }
 {
-    let bytes = name.as_bytes();
-    is_one_of(&LEFT_OUT, bytes)
-        || (begins_with_capital(bytes) && has_ending(&ENDINGS, bytes) && !is_exception(name))
+    is_one_of(&LEFT_OUT, name.as_bytes()) || is_other_exception(name.as_bytes())
 }
 
 /// Whether the name begins with two underscores.
@@ -209,14 +173,26 @@ pub(crate) fn is_operator(name: &str) -> bool
     is_one_of(&OPERATORS, name.as_bytes())
 }
 
+/// Whether a method of this name is a special method with one parameter besides the receiver.
+#[tactic(auto, unfolding(crate::specs::Words::takes_key))]
+fn takes_key(name: &str) -> bool
+    ensures { result ≡ takes_key name.now }
+{
+    is_operator(name) || is_one_of(&OF_KEY, name.as_bytes())
+}
+
 /// Whether a method of this name with so many parameters, the receiver among them, is a special method.
 #[tactic(auto, unfolding(crate::specs::Words::is_special))]
-pub(crate) fn is_special(name: &str, count: u32) -> bool
+pub(crate) fn is_special(name: &str, count: usize) -> bool
     ensures { result ≡ is_special name.now count }
 {
-    let bytes = name.as_bytes();
-    (name == "__init__" && count > 0)
-        || (is_one_of(&OF_RECEIVER, bytes) && count == 1)
-        || ((is_operator(name) || is_one_of(&OF_KEY, bytes)) && count == 2)
-        || (name == "__setitem__" && count == 3)
+    if name == "__init__" {
+        count > 0
+    } else if name == "__setitem__" {
+        count == 3
+    } else if takes_key(name) {
+        count == 2
+    } else {
+        count == 1 && is_one_of(&OF_RECEIVER, name.as_bytes())
+    }
 }
