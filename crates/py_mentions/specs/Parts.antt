@@ -100,28 +100,25 @@ statement_role role.Whole = role.AtTop
 statement_role role.ClassBody = role.InClass
 statement_role _ = role.Plain
 
+abbrev pub compound_parts : Program → ℕ → Statement → List Part
+compound_parts p n (statement.If e s other) = part role.Plain e ∷ part role.Plain s ∷ maybe (part role.Plain) other
+compound_parts p n (statement.While e s) = part role.Plain e ∷ part_in construct.Loop role.Plain s ∷ []
+compound_parts p n (statement.For t e s) = part role.Plain t ∷ part role.Plain e ∷ part_in construct.Loop role.Plain s ∷ []
+compound_parts p n (statement.Try s hs final) = part role.Plain s ∷ handler_parts hs ++ maybe (part_in construct.Finally role.Plain) final
+compound_parts p n (statement.Except kinds name s) = part_in (construct.Handler n) role.Plain s ∷ []
+compound_parts p n (statement.Def f) = body_of f (slice_get p.functions f)
+compound_parts p n (statement.Class name base s) = part_in (construct.Class s) role.ClassBody s ∷ []
+compound_parts p n _ = []
+
 abbrev pub statement_parts : Program → Role → ℕ → Statement → List Part
 statement_parts p r n (statement.Alone e) = plain_parts (e ∷ [])
 statement_parts p r n (statement.Assign t e) = part (target_role r) t ∷ part role.Plain e ∷ []
 statement_parts p r n (statement.Augmented t op e) = plain_parts (t ∷ e ∷ [])
-statement_parts p r n statement.Pass = []
-statement_parts p r n statement.Break = []
-statement_parts p r n statement.Continue = []
 statement_parts p r n (statement.Return e) = maybe (part role.Plain) e
-statement_parts p r n statement.RaiseAgain = []
-statement_parts p r n (statement.RaiseName name) = []
 statement_parts p r n (statement.RaiseCall name es) = plain_parts es
-statement_parts p r n (statement.Global names) = []
-statement_parts p r n (statement.Nonlocal names) = []
 statement_parts p r n (statement.Delete t) = plain_parts (t ∷ [])
-statement_parts p r n (statement.If e s other) = part role.Plain e ∷ part role.Plain s ∷ maybe (part role.Plain) other
-statement_parts p r n (statement.While e s) = part role.Plain e ∷ part_in construct.Loop role.Plain s ∷ []
-statement_parts p r n (statement.For t e s) = part role.Plain t ∷ part role.Plain e ∷ part_in construct.Loop role.Plain s ∷ []
-statement_parts p r n (statement.Try s hs final) = part role.Plain s ∷ handler_parts hs ++ maybe (part_in construct.Finally role.Plain) final
-statement_parts p r n (statement.Except kinds name s) = part_in (construct.Handler n) role.Plain s ∷ []
-statement_parts p r n (statement.Def f) = body_of f (slice_get p.functions f)
-statement_parts p r n (statement.Class name base s) = part_in (construct.Class s) role.ClassBody s ∷ []
 statement_parts p r n (statement.Suite ss) = map (part (statement_role r)) ss
+statement_parts p r n s = compound_parts p n s
 
 abbrev pub node_parts : Program → Role → ℕ → Option Node → List Part
 node_parts p r n (Some (node.Expression e)) = expression_parts p e

@@ -2,10 +2,15 @@
 #![tactic(auto)]
 
 mod mention;
+mod mentioning;
+mod names;
+mod parts;
 mod place;
+mod surroundings;
 mod walk;
 mod worst;
 
 pub use mention::{Form, Mention, Places};
+pub use names::{exception_named, is_exception, is_reserved, takes};
 pub use walk::places;
 pub use worst::{precedes, rank, worse};
