@@ -41,11 +41,15 @@ begins_with_capital [] = false
 begins_with_capital (c ∷ cs) = is_in_range 65 90 c
 
 -- spelled as the name of an exception class, which no class of the language has
-abbrev pub is_other_exception : List ℕ → Bool
+unfoldable pub is_other_exception : List ℕ → Bool
 is_other_exception t = begins_with_capital t && has_ending endings t && not (names_exception t)
 
-unfoldable pub is_left_out : List ℕ → Bool
-is_left_out t = is_one_of left_out t || is_other_exception t
+unfoldable pub is_listed : List ℕ → Bool
+is_listed t = is_one_of left_out t
+
+-- a name of Python that is left out
+abbrev pub is_left_out : List ℕ → Bool
+is_left_out t = is_listed t || is_other_exception t
 
 -- ---- special names
 

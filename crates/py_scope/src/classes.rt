@@ -35,6 +35,7 @@ impl ClassFacts {
 }
 
 /// What mentions say of each class statement.
+#[derive(Drop)]
 pub(crate) struct ClassTable {
     pub map: IndexMap<u32, ClassFacts>,
 }

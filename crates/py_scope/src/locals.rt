@@ -43,6 +43,7 @@ impl LocalFacts {
 }
 
 /// What mentions say of each name in each function.
+#[derive(Drop)]
 pub(crate) struct LocalTable<'a> {
     pub map: IndexMap<(u32, &'a str), LocalFacts>,
 }

@@ -65,6 +65,7 @@ impl NameFacts {
 }
 
 /// What mentions say of each name.
+#[derive(Drop)]
 pub(crate) struct NameTable<'a> {
     pub map: IndexMap<&'a str, NameFacts>,
 }

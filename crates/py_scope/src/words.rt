@@ -1,5 +1,5 @@
 ghost use Rattle.std.specs.Prelude.{◌≡◌, map};
-ghost use Rattle.py_scope.specs.Words.{is_one_of, is_reserved, has_ending, begins_with_capital, is_other_exception, is_left_out, is_private, takes_key, is_operator, is_special};
+ghost use Rattle.py_scope.specs.Words.{is_one_of, is_reserved, has_ending, begins_with_capital, is_other_exception, is_listed, is_left_out, is_private, takes_key, is_operator, is_special};
 
 use py_ast::Builtin;
 use py_mentions::is_exception;
@@ -144,18 +144,25 @@ fn begins_with_capital(name: &[u8]) -> bool
 }
 
 /// Whether the name is spelled as that of an exception class, and no exception class of the language has it.
+#[tactic(auto, unfolding(crate::specs::Words::is_other_exception))]
 fn is_other_exception(name: &[u8]) -> bool
     ensures { result ≡ is_other_exception name.now }
 {
     begins_with_capital(name) && has_ending(&ENDINGS, name) && !is_exception(name)
 }
 
+#[tactic(auto, unfolding(crate::specs::Words::is_listed))]
+fn is_listed(name: &[u8]) -> bool
+    ensures { result ≡ is_listed name.now }
+{
+    is_one_of(&LEFT_OUT, name)
+}
+
 /// Whether the name is one of Python that is left out.
-#[tactic(auto, unfolding(crate::specs::Words::is_left_out))]
 pub(crate) fn is_left_out(name: &str) -> bool
     ensures { result ≡ is_left_out name.now }
 {
-    is_one_of(&LEFT_OUT, name.as_bytes()) || is_other_exception(name.as_bytes())
+    is_listed(name.as_bytes()) || is_other_exception(name.as_bytes())
 }
 
 /// Whether the name begins with two underscores.
