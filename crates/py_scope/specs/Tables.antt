@@ -9,6 +9,7 @@ use Rattle.py_scope.specs.declared.mention.Mention.{Mention}
 use Rattle.py_scope.specs.declared.locals.LocalFacts.{LocalFacts}
 use Rattle.py_scope.specs.declared.names.NameFacts.{NameFacts}
 use Rattle.py_scope.specs.declared.classes.ClassFacts.{ClassFacts}
+use Rattle.py_scope.specs.declared.facts.Facts.{Facts}
 use Rattle.py_scope.specs.Words.{is_operator}
 use Rattle.py_scope.specs.Forms.{is_parameter, binds, is_caught, is_global, is_nonlocal, uses, is_class, is_base, is_method, is_number, is_below}
 use Rattle.py_scope.specs.Facts.{mentioned, occurs, is_rebound, earlier_class, has_base, has_operator, in_script}
@@ -117,3 +118,8 @@ class_facts ms k = record { has_base = has_base ms k; has_operator = has_operato
 
 abbrev pub KnowsClasses : {S : Type 0} → List Mention → ClassMap S → Type 0
 KnowsClasses ms t = (k : ℕ) → class_in t k ≡ class_facts ms k
+
+-- ---- all tables
+
+abbrev pub Knows : Facts → Type 0
+Knows f = KnowsLocals f.mentions.now f.locals.map × KnowsNames f.mentions.now f.mentions.now f.names.map × KnowsClasses f.mentions.now f.classes.map

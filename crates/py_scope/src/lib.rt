@@ -2,8 +2,11 @@
 #![tactic(auto)]
 
 mod classes;
+mod facts;
 mod forms;
+mod holding;
 mod locals;
 mod mention;
 mod names;
+mod rules;
 mod words;
