@@ -7,6 +7,8 @@ mod forms;
 mod holding;
 mod locals;
 mod mention;
+mod name_set;
 mod names;
 mod rules;
+mod scopes;
 mod words;
