@@ -1,7 +1,7 @@
-ghost use Rattle.std.specs.Prelude.{◌≡◌, ℕ, List, [], length, slice_get, Some, IfOk, OnOk};
+ghost use Rattle.std.specs.Prelude.{◌≡◌, ◌==◌, ℕ, List, [], length, slice_get, Some, IfOk, OnOk};
 ghost use Rattle.py_scope.specs.Finished.{is_among, is_plain, binds_local, takes_through, other_locals, free_names, handled, handler_names};
-ghost use Rattle.py_scope.specs.Names.{Added, Each};
-ghost use Rattle.py_scope.specs.Scopes.{around, passing};
+ghost use Rattle.py_scope.specs.Names.{Added, Each, added_if};
+ghost use Rattle.py_scope.specs.Scopes.{around, holding_of, passes, passing};
 ghost use Rattle.py_scope.specs.Tables.{Knows};
 
 use crate::facts::Facts;
@@ -20,6 +20,17 @@ fn is_plain(facts: LocalFacts) -> bool
     !(facts.is_parameter || facts.is_global || facts.is_nonlocal)
 }
 
+/// Adds the name to the set of a function.
+fn add_at<'a>(sets: &mut Vec<NameSet<'a>>, function: u32, name: &'a str) -> Result<(), NoMemory>
+    ensures { OnOk result (Added (λ g. function == g) name.now sets.old.items sets.new.items) }
+{
+    if function as usize >= sets.len() {
+        return Ok(());
+    }
+    sets[function as usize].add(name)?;
+    Ok(())
+}
+
 impl<'a> Facts<'a> {
     /// Adds the mention's name to the locals of its function, where it binds one that is no parameter.
     fn add_local(&self, sets: &mut Vec<NameSet<'a>>, mention: &'a Mention) -> Result<(), NoMemory>
@@ -30,12 +41,10 @@ impl<'a> Facts<'a> {
             return Ok(());
         };
         let name = mention.name.as_str();
-        if (function as usize) < sets.len()
-            && binds(mention.form)
-            && is_plain(self.locals.facts(function, name))
-        {
-            sets[function as usize].add(name)?;
+        if !binds(mention.form) || !is_plain(self.locals.facts(function, name)) {
+            return Ok(());
         }
+        add_at(sets, function, name)?;
         Ok(())
     }
 
@@ -51,6 +60,14 @@ impl<'a> Facts<'a> {
         Ok(sets)
     }
 
+    /// Whether the function leaves the name to those around it.
+    fn passes(&self, function: u32, name: &'a str) -> bool
+        requires { Knows self.now }
+        ensures { result ≡ passes (holding_of self.now.mentions.now function name.now) }
+    {
+        matches!(self.holding(function, name), Holding::Passes)
+    }
+
     /// Adds the name to the sets of the functions, from this one outwards, that pass it on.
     fn add_to_passing(&self, sets: &mut Vec<NameSet<'a>>, from: Option<u32>, name: &'a str) -> Result<(), NoMemory>
         requires { Knows self.now }
@@ -61,12 +78,10 @@ impl<'a> Facts<'a> {
             let Some(function) = here else {
                 return Ok(());
             };
-            if self.holding(function, name) != Holding::Passes {
+            if !self.passes(function, name) {
                 return Ok(());
             }
-            if (function as usize) < sets.len() {
-                sets[function as usize].add(name)?;
-            }
+            add_at(sets, function, name)?;
             here = self.parent(function);
         }
         Ok(())
@@ -78,9 +93,10 @@ impl<'a> Facts<'a> {
         ensures { OnOk result (Added (λ f. takes_through self.now.mentions.now self.now.functions.now f mention.now) mention.now.name sets.old.items sets.new.items) }
     {
         let name = mention.name.as_str();
-        if looks_up(mention.form) && self.is_kept(mention.function, name) {
-            self.add_to_passing(sets, mention.function, name)?;
+        if !looks_up(mention.form) || !self.is_kept(mention.function, name) {
+            return Ok(());
         }
+        self.add_to_passing(sets, mention.function, name)?;
         Ok(())
     }
 
@@ -103,9 +119,17 @@ pub(crate) fn handler_names<'a>(alloc: Global, mentions: &'a [Mention]) -> Resul
 {
     let mut names = NameSet::new(alloc);
     for mention in mentions {
-        if is_caught(mention.form) {
-            names.add(mention.name.as_str())?;
-        }
+        add_handler(&mut names, mention)?;
     }
     Ok(names)
+}
+
+/// Adds the mention's name where it comes after `as`.
+fn add_handler<'a>(names: &mut NameSet<'a>, mention: &'a Mention) -> Result<(), NoMemory>
+    ensures { OnOk result (names.new ≡ added_if (handled mention.now) mention.now.name names.old) }
+{
+    if is_caught(mention.form) {
+        return names.add(mention.name.as_str());
+    }
+    Ok(())
 }

@@ -1,4 +1,4 @@
-use Rattle.std.proofs.Common.{◌≡◌, ◌×◌, ◌-◌, ℕ, length, slice_get, option_map}
+use Rattle.std.proofs.Common.{◌≡◌, ◌-◌, ℕ, length, slice_get, option_map}
 use Rattle.py_scope.specs.Finished.{is_among}
 use Rattle.py_scope.specs.Names.{added_if}
 use Rattle.py_scope.specs.Scopes.{outwards, around, passing}
