@@ -1,3 +1,4 @@
+pub mod FinishLaws
 pub mod ScopeLaws
 pub mod SetLaws
 pub mod TableLaws

@@ -3,6 +3,7 @@
 
 mod classes;
 mod facts;
+mod finishing;
 mod forms;
 mod holding;
 mod locals;
