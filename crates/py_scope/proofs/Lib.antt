@@ -1,4 +1,5 @@
 pub mod FinishLaws
+pub mod FirstLaws
 pub mod ScopeLaws
 pub mod SetLaws
 pub mod TableLaws

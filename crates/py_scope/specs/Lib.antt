@@ -1,6 +1,7 @@
 pub mod Facts
 pub mod Finished
 pub mod Forms
+pub mod Judging
 pub mod Names
 pub mod Rules
 pub mod Scopes

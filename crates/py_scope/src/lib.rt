@@ -2,10 +2,12 @@
 #![tactic(auto)]
 
 mod classes;
+mod ending;
 mod facts;
 mod finishing;
 mod forms;
 mod holding;
+mod judging;
 mod locals;
 mod mention;
 mod name_set;
@@ -13,3 +15,6 @@ mod names;
 mod rules;
 mod scopes;
 mod words;
+
+pub use ending::AcceptEnd;
+pub use judging::judge;
