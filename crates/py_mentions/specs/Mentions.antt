@@ -18,18 +18,21 @@ use Rattle.py_mentions.specs.declared.mention.Mention.{Mention}
 use Rattle.py_mentions.specs.declared.place.Construct.{Construct}
 use Rattle.py_mentions.specs.declared.place.Role.{Role}
 use Rattle.py_mentions.specs.declared.place.Role.TheVariants as role
-use Rattle.py_mentions.specs.Surroundings.{function_at, is_caught}
+use Rattle.py_mentions.specs.Surroundings.{class_at, function_at, is_caught}
 
--- a mention in this function, which is no guarded use of a handler's name
+-- a mention in this function, of this class, which is no guarded use of a handler's name
+abbrev pub class_mention : Option ℕ → Option ℕ → Form → ℕ → List ℕ → Mention
+class_mention f c how l t = record { name = t; line = l; function = f; form = how; is_guarded = false; class = c }
+
 abbrev pub mention : Option ℕ → Form → ℕ → List ℕ → Mention
-mention f how l t = record { name = t; line = l; function = f; form = how; is_guarded = false }
+mention f how l t = class_mention f None how l t
 
 abbrev pub mention_of : Option ℕ → Form → Name → Mention
 mention_of f how n = mention f how n.line n.text
 
 -- a use that is guarded where a handler of its name stands around
 abbrev pub guarded_use : Program → List Construct → Form → ℕ → List ℕ → Mention
-guarded_use p cs how l t = record { name = t; line = l; function = function_at cs; form = how; is_guarded = is_caught p t cs }
+guarded_use p cs how l t = record { name = t; line = l; function = function_at cs; form = how; is_guarded = is_caught p t cs; class = None }
 
 abbrev pub line_or : Option ℕ → ℕ
 line_or None = 0
@@ -61,38 +64,40 @@ expression_mentions p cs r l (expression.Attribute n t) = mention (function_at c
 expression_mentions p cs r l (expression.Lambda f) = lambda_mentions f (slice_get p.functions f)
 expression_mentions p cs r l _ = []
 
-abbrev pub target_form : Role → Form
-target_form role.Member = form.Member
-target_form _ = form.Target
+-- a name that is bound, by a class body or otherwise
+abbrev pub bound : List Construct → Role → ℕ → List ℕ → Mention
+bound cs role.Member l t = class_mention (function_at cs) (class_at cs) form.Member l t
+bound cs _ l t = mention (function_at cs) form.Target l t
 
 abbrev pub target_mentions : List Construct → Role → ℕ → Target → List Mention
-target_mentions cs r l (target.Name t) = mention (function_at cs) (target_form r) l t ∷ []
+target_mentions cs r l (target.Name t) = bound cs r l t ∷ []
 target_mentions cs r l (target.Attribute n t) = mention (function_at cs) form.Attribute l t ∷ []
 target_mentions cs r l _ = []
 
 -- ---- functions and statements
 
-abbrev pub def_form : Role → ℕ → Form
-def_form role.InClass count = form.Method count
-def_form _ count = form.Function
+-- the name of a `def`, of a method with so many parameters or not
+abbrev pub defined : List Construct → Role → ℕ → ℕ → List ℕ → Mention
+defined cs role.InClass count l t = class_mention (function_at cs) (class_at cs) (form.Method count) l t
+defined cs _ count l t = mention (function_at cs) form.Function l t
 
 -- a `def` mentions its name, then its parameters
 abbrev pub def_mentions : List Construct → Role → ℕ → ℕ → Option FunctionInfo → List Mention
 def_mentions cs r l f None = []
-def_mentions cs r l f (Some info) = mention (function_at cs) (def_form r (length info.parameters)) l info.name ∷ parameter_mentions f info.parameters
+def_mentions cs r l f (Some info) = defined cs r (length info.parameters) l info.name ∷ parameter_mentions f info.parameters
 
-abbrev pub maybe_mention : Option ℕ → Form → Option Name → List Mention
-maybe_mention f how None = []
-maybe_mention f how (Some n) = mention_of f how n ∷ []
+abbrev pub maybe_mention : Option ℕ → Option ℕ → Form → Option Name → List Mention
+maybe_mention f c how None = []
+maybe_mention f c how (Some n) = class_mention f c how n.line n.text ∷ []
 
 abbrev pub statement_mentions : Program → List Construct → Role → ℕ → Statement → List Mention
 statement_mentions p cs r l (statement.RaiseName n) = guarded_use p cs form.Raised n.line n.text ∷ []
 statement_mentions p cs r l (statement.RaiseCall n es) = mention_of (function_at cs) form.Raised n ∷ []
 statement_mentions p cs r l (statement.Global ns) = map (mention_of (function_at cs) form.Global) ns
 statement_mentions p cs r l (statement.Nonlocal ns) = map (mention_of (function_at cs) form.Nonlocal) ns
-statement_mentions p cs r l (statement.Except kinds name s) = map (mention_of (function_at cs) form.Exception) kinds ++ maybe_mention (function_at cs) form.Caught name
+statement_mentions p cs r l (statement.Except kinds name s) = map (mention_of (function_at cs) form.Exception) kinds ++ maybe_mention (function_at cs) None form.Caught name
 statement_mentions p cs r l (statement.Def f) = def_mentions cs r l f (slice_get p.functions f)
-statement_mentions p cs r l (statement.Class name base s) = mention_of (function_at cs) form.Class name ∷ maybe_mention (function_at cs) form.Base base
+statement_mentions p cs r l (statement.Class name base s) = class_mention (function_at cs) (Some s) form.Class name.line name.text ∷ maybe_mention (function_at cs) (Some s) form.Base base
 statement_mentions p cs r l _ = []
 
 abbrev pub node_mentions : Program → List Construct → Role → ℕ → Option Node → List Mention

@@ -1,5 +1,5 @@
 -- The worst of several refusals: that of least line, and then of least rule.
-use Rattle.std.specs.Prelude.{ℕ, Bool, ◌==◌, ◌&&◌, ◌||◌, nat_lt, List, [], ◌∷◌, Option, Some, None, if◌then◌else◌}
+use Rattle.std.specs.Prelude.{◌≡◌, ◌⊎◌, false, refl, ◌++◌, ℕ, Bool, ◌==◌, ◌&&◌, ◌||◌, nat_lt, List, [], ◌∷◌, Option, Some, None, if◌then◌else◌}
 use Rattle.rp_base.specs.declared.rules.Rule.{Rule}
 use Rattle.rp_base.specs.declared.rules.Rule.TheVariants as rule
 use Rattle.rp_base.specs.declared.rules.Refused.{Refused}
@@ -38,10 +38,27 @@ worse None r = r
 worse (Some w) r = if precedes r w then r else w
 
 -- the worst of one and these
-unfoldable pub worst_with : Option Refused → List Refused → Option Refused
+abbrev pub worst_with : Option Refused → List Refused → Option Refused
 worst_with w [] = w
 worst_with w (r ∷ rs) = worst_with (Some (worse w r)) rs
 
 -- the worst of these
 abbrev pub worst : List Refused → Option Refused
 worst rs = worst_with None rs
+
+-- the worst of two lists, one after the other
+pub worst_more : (w : Option Refused) (rs ss : List Refused) → worst_with w (rs ++ ss) ≡ worst_with (worst_with w rs) ss
+worst_more w [] ss = refl
+worst_more w (r ∷ rs) ss = worst_more (Some (worse w r)) rs ss
+
+-- ---- the same, said without an order of steps
+
+-- x is one of the list
+abbrev pub IsIn : {A : Type 0} → A → List A → Type 0
+IsIn x [] = ⊥
+IsIn x (y ∷ ys) = (x ≡ y) ⊎ IsIn x ys
+
+-- w is one of these, and none of these precedes it
+pub record IsWorst (rs : List Refused) (w : Refused) : Type 0 where
+  pub one : IsIn w rs
+  pub first : (r : Refused) → IsIn r rs → precedes r w ≡ false

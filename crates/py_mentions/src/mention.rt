@@ -43,6 +43,9 @@ pub struct Mention {
     /// Whether it is one of `str(e)`, `repr(e)`, `e.args`, `raise e`, within a handler `except .. as e` of the same name
     /// and with no function in between.
     pub is_guarded: bool,
+    /// Of `Class`, `Base`, `Member` and `Method`: the class statement to which it belongs, by the number of its body. Of
+    /// two classes one after the other the later has the greater number.
+    pub class: Option<u32>,
 }
 
 /// What a walk over a script's tree finds.

@@ -1,9 +1,9 @@
 ghost use Rattle.std.specs.Prelude.{◌≡◌, ◌++◌, ◌∷◌, [], IfOk, length, map, slice_get};
-ghost use Rattle.py_mentions.specs.Mentions.{def_form, def_mentions, expression_mentions, guarded_use, lambda_mentions, line_of, maybe_mention, mention, mention_of, mentions_at, parameter_mentions, read, statement_mentions, target_form, target_mentions};
+ghost use Rattle.py_mentions.specs.Mentions.{bound, class_mention, def_mentions, defined, expression_mentions, guarded_use, lambda_mentions, line_of, maybe_mention, mention, mention_of, mentions_at, parameter_mentions, read, statement_mentions, target_mentions};
 
 use crate::mention::{Form, Mention};
 use crate::place::{Construct, Role};
-use crate::surroundings::{function_at, is_caught};
+use crate::surroundings::{class_at, function_at, is_caught};
 use py_ast::{Expression, Name, Node, Program, Statement, Target};
 use rp_base::{NoMemory, Text};
 use sqlite_items::Items;
@@ -56,12 +56,28 @@ fn put(
 ) -> Result<(), NoMemory>
     ensures { IfOk result (λ _. mentions.new ≡ mentions.old ++ mention function form line name.now ∷ []) }
 {
+    put_of_class(alloc, mentions, function, None, form, line, name)
+}
+
+/// A mention that belongs to a class.
+fn put_of_class(
+    alloc: Global,
+    mentions: &mut Items<Mention>,
+    function: Option<u32>,
+    class: Option<u32>,
+    form: Form,
+    line: u32,
+    name: &str,
+) -> Result<(), NoMemory>
+    ensures { IfOk result (λ _. mentions.new ≡ mentions.old ++ class_mention function class form line name.now ∷ []) }
+{
     mentions.push(Mention {
         name: Text::from_str(alloc, name)?,
         line,
         function,
         form,
         is_guarded: false,
+        class,
     })?;
     Ok(())
 }
@@ -84,6 +100,7 @@ fn put_guarded(
         function: function_at(constructs),
         form,
         is_guarded: is_caught(program, name.as_bytes(), constructs),
+        class: None,
     })?;
     Ok(())
 }
@@ -114,16 +131,18 @@ fn put_maybe(
     alloc: Global,
     mentions: &mut Items<Mention>,
     function: Option<u32>,
+    class: Option<u32>,
     form: Form,
     name: &Option<Name>,
 ) -> Result<(), NoMemory>
-    ensures { IfOk result (λ _. mentions.new ≡ mentions.old ++ maybe_mention function form name.now) }
+    ensures { IfOk result (λ _. mentions.new ≡ mentions.old ++ maybe_mention function class form name.now) }
 {
     match name {
-        Some(name) => put(
+        Some(name) => put_of_class(
             alloc,
             mentions,
             function,
+            class,
             form,
             name.line,
             name.text.as_str(),
@@ -226,12 +245,29 @@ fn expression_mentions(
     }
 }
 
-fn target_form(role: Role) -> Form
-    ensures { result ≡ target_form role }
+/// A name that is bound, by a class body or otherwise.
+fn bound(
+    alloc: Global,
+    mentions: &mut Items<Mention>,
+    constructs: &[Construct],
+    role: Role,
+    line: u32,
+    name: &str,
+) -> Result<(), NoMemory>
+    ensures { IfOk result (λ _. mentions.new ≡ mentions.old ++ bound constructs.now role line name.now ∷ []) }
 {
+    let function = function_at(constructs);
     match role {
-        Role::Member => Form::Member,
-        _ => Form::Target,
+        Role::Member => put_of_class(
+            alloc,
+            mentions,
+            function,
+            class_at(constructs),
+            Form::Member,
+            line,
+            name,
+        ),
+        _ => put(alloc, mentions, function, Form::Target, line, name),
     }
 }
 
@@ -246,14 +282,7 @@ fn target_mentions(
     ensures { IfOk result (λ _. mentions.new ≡ mentions.old ++ target_mentions constructs.now role line target.now) }
 {
     match target {
-        Target::Name(name) => put(
-            alloc,
-            mentions,
-            function_at(constructs),
-            target_form(role),
-            line,
-            name.as_str(),
-        ),
+        Target::Name(name) => bound(alloc, mentions, constructs, role, line, name.as_str()),
         Target::Attribute { name, .. } => put(
             alloc,
             mentions,
@@ -266,12 +295,30 @@ fn target_mentions(
     }
 }
 
-fn def_form(role: Role, count: usize) -> Form
-    ensures { result ≡ def_form role count }
+/// The name of a `def`, of a method with so many parameters or not.
+fn defined(
+    alloc: Global,
+    mentions: &mut Items<Mention>,
+    constructs: &[Construct],
+    role: Role,
+    count: usize,
+    line: u32,
+    name: &str,
+) -> Result<(), NoMemory>
+    ensures { IfOk result (λ _. mentions.new ≡ mentions.old ++ defined constructs.now role count line name.now ∷ []) }
 {
+    let function = function_at(constructs);
     match role {
-        Role::InClass => Form::Method(count),
-        _ => Form::Function,
+        Role::InClass => put_of_class(
+            alloc,
+            mentions,
+            function,
+            class_at(constructs),
+            Form::Method(count),
+            line,
+            name,
+        ),
+        _ => put(alloc, mentions, function, Form::Function, line, name),
     }
 }
 
@@ -288,12 +335,13 @@ fn def_mentions(
 {
     match program.functions.get(function as usize) {
         Some(info) => {
-            let form = def_form(role, info.parameters.len());
-            put(
+            let count = info.parameters.len();
+            defined(
                 alloc,
                 mentions,
-                function_at(constructs),
-                form,
+                constructs,
+                role,
+                count,
                 line,
                 info.name.as_str(),
             )?;
@@ -355,22 +403,24 @@ fn statement_mentions(
         Statement::Except { kinds, name, .. } => {
             let function = function_at(constructs);
             put_all(alloc, mentions, function, Form::Exception, kinds.as_slice())?;
-            put_maybe(alloc, mentions, function, Form::Caught, name)
+            put_maybe(alloc, mentions, function, None, Form::Caught, name)
         }
         Statement::Def(function) => def_mentions(
             alloc, mentions, program, constructs, role, line, *function,
         ),
-        Statement::Class { name, base, .. } => {
+        Statement::Class { name, base, body } => {
             let function = function_at(constructs);
-            put(
+            let class = Some(*body);
+            put_of_class(
                 alloc,
                 mentions,
                 function,
+                class,
                 Form::Class,
                 name.line,
                 name.text.as_str(),
             )?;
-            put_maybe(alloc, mentions, function, Form::Base, base)
+            put_maybe(alloc, mentions, function, class, Form::Base, base)
         }
         _ => Ok(()),
     }

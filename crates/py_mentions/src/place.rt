@@ -42,3 +42,11 @@ pub struct Part {
     pub role: Role,
     pub around: Option<Construct>,
 }
+
+/// What the walk has still to do.
+#[derive(Clone, Copy, Debug, PartialEq, Eq)]
+pub enum Task {
+    Visit(Part),
+    /// The innermost construct ends.
+    Leave,
+}

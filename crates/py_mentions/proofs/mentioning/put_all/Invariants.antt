@@ -1,4 +1,4 @@
-use Rattle.std.proofs.Common.{◌≡◌, drop, take, ◌++◌, map}
+use Rattle.std.proofs.Common.{◌≡◌, take, ◌++◌, map}
 use Rattle.py_mentions.specs.Mentions.{mention_of}
 use Rattle.py_mentions.proofs.mentioning.put_all.Given as goal
 

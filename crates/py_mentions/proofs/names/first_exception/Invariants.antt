@@ -1,4 +1,4 @@
-use Rattle.std.proofs.Common.{◌≡◌, drop, take, ◌++◌, map}
+use Rattle.std.proofs.Common.{◌≡◌, drop}
 use Rattle.py_mentions.specs.Rules.{first_exception}
 use Rattle.py_mentions.proofs.names.first_exception.Given as goal
 

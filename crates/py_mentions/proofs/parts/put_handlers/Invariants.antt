@@ -1,4 +1,4 @@
-use Rattle.std.proofs.Common.{◌≡◌, drop, take, ◌++◌, map}
+use Rattle.std.proofs.Common.{◌≡◌, drop, ◌++◌}
 use Rattle.py_mentions.specs.Parts.{handler_parts}
 use Rattle.py_mentions.proofs.parts.put_handlers.Given as goal
 

@@ -1,4 +1,4 @@
-use Rattle.std.proofs.Common.{◌≡◌, drop, take, ◌++◌, map}
+use Rattle.std.proofs.Common.{◌≡◌, take, ◌++◌, map}
 use Rattle.py_mentions.specs.Parts.{plain_parts, right_of}
 use Rattle.py_mentions.proofs.parts.put_rights.Given as goal
 

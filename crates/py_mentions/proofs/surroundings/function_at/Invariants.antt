@@ -1,4 +1,4 @@
-use Rattle.std.proofs.Common.{◌≡◌, drop, take, ◌++◌, map}
+use Rattle.std.proofs.Common.{◌≡◌, drop}
 use Rattle.py_mentions.specs.Surroundings.{function_at, function_within}
 use Rattle.py_mentions.proofs.surroundings.function_at.Given as goal
 

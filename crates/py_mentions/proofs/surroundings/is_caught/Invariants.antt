@@ -1,4 +1,4 @@
-use Rattle.std.proofs.Common.{◌≡◌, drop, take, ◌++◌, map}
+use Rattle.std.proofs.Common.{◌≡◌, drop}
 use Rattle.py_mentions.specs.Surroundings.{is_caught, is_caught_within}
 use Rattle.py_mentions.proofs.surroundings.is_caught.Given as goal
 

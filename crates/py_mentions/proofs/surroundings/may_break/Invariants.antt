@@ -1,4 +1,4 @@
-use Rattle.std.proofs.Common.{◌≡◌, drop, take, ◌++◌, map}
+use Rattle.std.proofs.Common.{◌≡◌, drop}
 use Rattle.py_mentions.specs.Surroundings.{may_break, may_break_within}
 use Rattle.py_mentions.proofs.surroundings.may_break.Given as goal
 
