@@ -1,0 +1,6 @@
+pub mod FinishLaws
+pub mod FirstLaws
+pub mod ScopeLaws
+pub mod SetLaws
+pub mod TableLaws
+pub mod WorstLaws

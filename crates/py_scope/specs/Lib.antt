@@ -1,0 +1,9 @@
+pub mod Facts
+pub mod Finished
+pub mod Forms
+pub mod Judging
+pub mod Names
+pub mod Rules
+pub mod Scopes
+pub mod Tables
+pub mod Words

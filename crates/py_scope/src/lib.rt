@@ -1,0 +1,20 @@
+//! The rules on names, and the names that each function keeps.
+#![tactic(auto)]
+
+mod classes;
+mod ending;
+mod facts;
+mod finishing;
+mod forms;
+mod holding;
+mod judging;
+mod locals;
+mod mention;
+mod name_set;
+mod names;
+mod rules;
+mod scopes;
+mod words;
+
+pub use ending::AcceptEnd;
+pub use judging::judge;
