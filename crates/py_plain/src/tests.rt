@@ -4,7 +4,7 @@ use crate::{
 use rp_base::BinaryOp::{Add, And, Div, FloorDiv, Mod, Mul, Or, Pow, Shl, Shr, Sub, Xor};
 use rp_base::CmpOp::{Eq, Ge, Gt, Le, Lt, Ne};
 use rp_base::UnaryOp::{Invert, Neg, Pos};
-use rp_base::{BinaryOp, Blob, CmpOp, Plain, Text};
+use rp_base::{BinaryOp, Blob, CmpOp, Plain, Text, UnaryOp};
 use sqlite_items::Items;
 use std::alloc::Global;
 use std::test::Fail;
@@ -105,110 +105,113 @@ const REFUSED: &str = "TypeError: unsupported operand";
 
 const NO_ORDER: &str = "TypeError: no order";
 
+const INTS: [(i128, BinaryOp, i128, &str); 23] = [
+    (TOP, Add, 0, "170141183460469231731687303715884105727"),
+    (TOP, Add, 1, "Int"),
+    (LOW, Sub, 1, "Int"),
+    (
+        1 << 63,
+        Mul,
+        -(1 << 64),
+        "-170141183460469231731687303715884105728",
+    ),
+    (1 << 63, Mul, 1 << 64, "Int"),
+    (LOW, FloorDiv, -1, "Int"),
+    (-7, FloorDiv, 2, "-4"),
+    (-7, Mod, 2, "1"),
+    (7, Mod, -2, "-1"),
+    (7, Mod, 0, DIVIDED),
+    (-2, Pow, 127, "-170141183460469231731687303715884105728"),
+    (2, Pow, 127, "Int"),
+    (2, Pow, -1, "Float"),
+    (0, Pow, -1, DIVIDED),
+    (1, Div, 2, "Float"),
+    (1, Div, 0, DIVIDED),
+    (1, Shl, 126, "85070591730234615865843651857942052864"),
+    (1, Shl, 127, "Int"),
+    (1, Shl, -1, "ValueError: negative shift count"),
+    (-1, Shr, 200, "-1"),
+    (6, And, 3, "2"),
+    (6, Or, 3, "7"),
+    (-1, Xor, 5, "-6"),
+];
+
 #[test]
 fn ints_at_the_ends_of_128_bits(rt: HostRuntime) -> Result<(), Fail> {
-    let rows = [
-        (TOP, Add, 0, "170141183460469231731687303715884105727"),
-        (TOP, Add, 1, "Int"),
-        (LOW, Sub, 1, "Int"),
-        (
-            1 << 63,
-            Mul,
-            -(1 << 64),
-            "-170141183460469231731687303715884105728",
-        ),
-        (1 << 63, Mul, 1 << 64, "Int"),
-        (LOW, FloorDiv, -1, "Int"),
-        (-7, FloorDiv, 2, "-4"),
-        (-7, Mod, 2, "1"),
-        (7, Mod, -2, "-1"),
-        (7, Mod, 0, DIVIDED),
-        (-2, Pow, 127, "-170141183460469231731687303715884105728"),
-        (2, Pow, 127, "Int"),
-        (2, Pow, -1, "Float"),
-        (0, Pow, -1, DIVIDED),
-        (1, Div, 2, "Float"),
-        (1, Div, 0, DIVIDED),
-        (1, Shl, 126, "85070591730234615865843651857942052864"),
-        (1, Shl, 127, "Int"),
-        (1, Shl, -1, "ValueError: negative shift count"),
-        (-1, Shr, 200, "-1"),
-        (6, And, 3, "2"),
-        (6, Or, 3, "7"),
-        (-1, Xor, 5, "-6"),
-    ];
-    for (a, op, b, wanted) in rows {
+    for (a, op, b, wanted) in INTS {
         let answer = binary(rt.alloc(), Item::Atom(Int(a)), op, Item::Atom(Int(b)))?;
         assert_eq!(rt; answer.as_str(), wanted);
     }
     Ok(())
 }
 
+const OTHERS: [(Item, BinaryOp, Item, &str); 29] = [
+    (Item::Atom(Bool(true)), Add, Item::Atom(Bool(true)), "2"),
+    (
+        Item::Atom(Bool(true)),
+        And,
+        Item::Atom(Bool(false)),
+        "False",
+    ),
+    (Item::Atom(Bool(false)), Or, Item::Atom(Bool(true)), "True"),
+    (Item::Atom(Bool(true)), Xor, Item::Atom(Bool(true)), "False"),
+    (Item::Atom(Bool(true)), And, Item::Atom(Int(3)), "1"),
+    (Item::Atom(Str("ab")), Mul, Item::Atom(Int(3)), "'ababab'"),
+    (Item::Atom(Int(2)), Mul, Item::Atom(Raw("ab")), "b'abab'"),
+    (
+        Two(Int(1), Str("a")),
+        Mul,
+        Item::Atom(Int(2)),
+        "(1, 'a', 1, 'a')",
+    ),
+    (Item::Atom(Bool(true)), Mul, Item::Atom(Str("ab")), "'ab'"),
+    (Item::Atom(Raw("ab")), Mul, Item::Atom(Int(-1)), "b''"),
+    (One(Nil), Mul, Item::Atom(Int(0)), "()"),
+    (
+        Item::Atom(Str("")),
+        Mul,
+        Item::Atom(Int((1 << 63) - 1)),
+        "''",
+    ),
+    (Item::Atom(Str("")), Mul, Item::Atom(Int(1 << 63)), "Int"),
+    (One(Nil), Mul, Item::Atom(Int(-(1 << 63))), "()"),
+    (One(Nil), Mul, Item::Atom(Int(-(1 << 63) - 1)), "Int"),
+    (Zero, Mul, Item::Atom(Int((1 << 63) - 1)), "()"),
+    (Item::Atom(Str("a")), Mul, Item::Atom(Int(1 << 20)), "Size"),
+    (One(Nil), Mul, Item::Atom(Int(1 << 20)), "Size"),
+    (Item::Atom(Str("a")), Add, Item::Atom(Str("b")), "'ab'"),
+    (Item::Atom(Raw("a")), Add, Item::Atom(Raw("b")), "b'ab'"),
+    (Two(Int(1), Str("a")), Add, One(Nil), "(1, 'a', None)"),
+    (Item::Atom(Str("a")), Add, Item::Atom(Raw("b")), REFUSED),
+    (Item::Atom(Str("a")), Mul, Item::Atom(Str("b")), REFUSED),
+    (Item::Atom(Str("%s")), Mod, Item::Atom(Int(1)), "Operator"),
+    (Item::Atom(Raw("")), Mod, Item::Atom(Nil), "Operator"),
+    (Item::Atom(Int(5)), Mod, Item::Atom(Str("a")), REFUSED),
+    (One(Nil), Mod, Item::Atom(Int(2)), REFUSED),
+    (Item::Atom(Nil), Mul, Item::Atom(Int(1 << 100)), REFUSED),
+    (Item::Atom(NotImpl), Sub, Item::Atom(Dots), REFUSED),
+];
+
 #[test]
 fn bools_texts_bytes_and_tuples(rt: HostRuntime) -> Result<(), Fail> {
-    let rows = [
-        (Item::Atom(Bool(true)), Add, Item::Atom(Bool(true)), "2"),
-        (
-            Item::Atom(Bool(true)),
-            And,
-            Item::Atom(Bool(false)),
-            "False",
-        ),
-        (Item::Atom(Bool(false)), Or, Item::Atom(Bool(true)), "True"),
-        (Item::Atom(Bool(true)), Xor, Item::Atom(Bool(true)), "False"),
-        (Item::Atom(Bool(true)), And, Item::Atom(Int(3)), "1"),
-        (Item::Atom(Str("ab")), Mul, Item::Atom(Int(3)), "'ababab'"),
-        (Item::Atom(Int(2)), Mul, Item::Atom(Raw("ab")), "b'abab'"),
-        (
-            Two(Int(1), Str("a")),
-            Mul,
-            Item::Atom(Int(2)),
-            "(1, 'a', 1, 'a')",
-        ),
-        (Item::Atom(Bool(true)), Mul, Item::Atom(Str("ab")), "'ab'"),
-        (Item::Atom(Raw("ab")), Mul, Item::Atom(Int(-1)), "b''"),
-        (One(Nil), Mul, Item::Atom(Int(0)), "()"),
-        (
-            Item::Atom(Str("")),
-            Mul,
-            Item::Atom(Int((1 << 63) - 1)),
-            "''",
-        ),
-        (Item::Atom(Str("")), Mul, Item::Atom(Int(1 << 63)), "Int"),
-        (One(Nil), Mul, Item::Atom(Int(-(1 << 63))), "()"),
-        (One(Nil), Mul, Item::Atom(Int(-(1 << 63) - 1)), "Int"),
-        (Zero, Mul, Item::Atom(Int((1 << 63) - 1)), "()"),
-        (Item::Atom(Str("a")), Mul, Item::Atom(Int(1 << 20)), "Size"),
-        (One(Nil), Mul, Item::Atom(Int(1 << 20)), "Size"),
-        (Item::Atom(Str("a")), Add, Item::Atom(Str("b")), "'ab'"),
-        (Item::Atom(Raw("a")), Add, Item::Atom(Raw("b")), "b'ab'"),
-        (Two(Int(1), Str("a")), Add, One(Nil), "(1, 'a', None)"),
-        (Item::Atom(Str("a")), Add, Item::Atom(Raw("b")), REFUSED),
-        (Item::Atom(Str("a")), Mul, Item::Atom(Str("b")), REFUSED),
-        (Item::Atom(Str("%s")), Mod, Item::Atom(Int(1)), "Operator"),
-        (Item::Atom(Raw("")), Mod, Item::Atom(Nil), "Operator"),
-        (Item::Atom(Int(5)), Mod, Item::Atom(Str("a")), REFUSED),
-        (One(Nil), Mod, Item::Atom(Int(2)), REFUSED),
-        (Item::Atom(Nil), Mul, Item::Atom(Int(1 << 100)), REFUSED),
-        (Item::Atom(NotImpl), Sub, Item::Atom(Dots), REFUSED),
-    ];
-    for (a, op, b, wanted) in rows {
+    for (a, op, b, wanted) in OTHERS {
         assert_eq!(rt; binary(rt.alloc(), a, op, b)?.as_str(), wanted);
     }
     Ok(())
 }
 
+const SIGNS: [(UnaryOp, Atom, &str); 5] = [
+    (Neg, Bool(true), "-1"),
+    (Pos, Bool(false), "0"),
+    (Invert, Int(TOP), "-170141183460469231731687303715884105728"),
+    (Neg, Int(LOW), "Int"),
+    (Neg, Nil, REFUSED),
+];
+
 #[test]
 fn one_operand(rt: HostRuntime) -> Result<(), Fail> {
     let alloc = rt.alloc();
-    let rows = [
-        (Neg, Bool(true), "-1"),
-        (Pos, Bool(false), "0"),
-        (Invert, Int(TOP), "-170141183460469231731687303715884105728"),
-        (Neg, Int(LOW), "Int"),
-        (Neg, Nil, REFUSED),
-    ];
-    for (op, a, wanted) in rows {
+    for (op, a, wanted) in SIGNS {
         let answer = plain_unary(alloc, op, &of_atom(alloc, a)?);
         assert_eq!(rt; shown(alloc, answer)?.as_str(), wanted);
     }
@@ -233,55 +236,57 @@ fn the_heaviest_text(rt: HostRuntime) -> Result<(), Fail> {
     Ok(())
 }
 
+const ORDERS: [(Item, CmpOp, Item, &str); 18] = [
+    (Item::Atom(Bool(true)), Lt, Item::Atom(Int(2)), "True"),
+    (Item::Atom(Int(0)), Ge, Item::Atom(Bool(false)), "True"),
+    (Item::Atom(Str("Z")), Lt, Item::Atom(Str("a")), "True"),
+    (
+        Item::Atom(Str("\u{ffff}")),
+        Lt,
+        Item::Atom(Str("\u{10000}")),
+        "True",
+    ),
+    (Item::Atom(Str("ab")), Le, Item::Atom(Str("a")), "False"),
+    (Item::Atom(Raw("a")), Lt, Item::Atom(Raw("ab")), "True"),
+    (One(Int(1)), Lt, Two(Int(1), Int(2)), "True"),
+    (One(Int(2)), Lt, Two(Int(1), Int(5)), "False"),
+    (Two(Nil, Int(1)), Lt, Two(Nil, Int(2)), "True"),
+    (Two(Int(1), Nil), Gt, Two(Bool(true), Int(2)), NO_ORDER),
+    (Two(Int(1), Nil), Gt, Two(Int(0), Str("")), "True"),
+    (One(Nil), Le, One(Nil), "True"),
+    (One(Nil), Lt, One(Nil), "False"),
+    (Item::Atom(Nil), Le, Item::Atom(Nil), NO_ORDER),
+    (Item::Atom(Int(1)), Lt, Item::Atom(Str("a")), NO_ORDER),
+    (Item::Atom(Str("a")), Eq, Item::Atom(Raw("a")), "False"),
+    (One(Int(1)), Eq, One(Bool(true)), "True"),
+    (Item::Atom(NotImpl), Ne, Item::Atom(NotImpl), "False"),
+];
+
 #[test]
 fn values_are_compared(rt: HostRuntime) -> Result<(), Fail> {
-    let rows = [
-        (Item::Atom(Bool(true)), Lt, Item::Atom(Int(2)), "True"),
-        (Item::Atom(Int(0)), Ge, Item::Atom(Bool(false)), "True"),
-        (Item::Atom(Str("Z")), Lt, Item::Atom(Str("a")), "True"),
-        (
-            Item::Atom(Str("\u{ffff}")),
-            Lt,
-            Item::Atom(Str("\u{10000}")),
-            "True",
-        ),
-        (Item::Atom(Str("ab")), Le, Item::Atom(Str("a")), "False"),
-        (Item::Atom(Raw("a")), Lt, Item::Atom(Raw("ab")), "True"),
-        (One(Int(1)), Lt, Two(Int(1), Int(2)), "True"),
-        (One(Int(2)), Lt, Two(Int(1), Int(5)), "False"),
-        (Two(Nil, Int(1)), Lt, Two(Nil, Int(2)), "True"),
-        (Two(Int(1), Nil), Gt, Two(Bool(true), Int(2)), NO_ORDER),
-        (Two(Int(1), Nil), Gt, Two(Int(0), Str("")), "True"),
-        (One(Nil), Le, One(Nil), "True"),
-        (One(Nil), Lt, One(Nil), "False"),
-        (Item::Atom(Nil), Le, Item::Atom(Nil), NO_ORDER),
-        (Item::Atom(Int(1)), Lt, Item::Atom(Str("a")), NO_ORDER),
-        (Item::Atom(Str("a")), Eq, Item::Atom(Raw("a")), "False"),
-        (One(Int(1)), Eq, One(Bool(true)), "True"),
-        (Item::Atom(NotImpl), Ne, Item::Atom(NotImpl), "False"),
-    ];
-    for (a, op, b, wanted) in rows {
+    for (a, op, b, wanted) in ORDERS {
         assert_eq!(rt; compared(rt.alloc(), a, op, b)?.as_str(), wanted);
     }
     Ok(())
 }
 
+const TRUTHS: [(Item, Option<bool>); 11] = [
+    (Item::Atom(Nil), Some(false)),
+    (Item::Atom(Bool(true)), Some(true)),
+    (Item::Atom(Int(0)), Some(false)),
+    (Item::Atom(Int(-1)), Some(true)),
+    (Item::Atom(Str("")), Some(false)),
+    (Item::Atom(Str("0")), Some(true)),
+    (Item::Atom(Raw("")), Some(false)),
+    (Zero, Some(false)),
+    (One(Nil), Some(true)),
+    (Item::Atom(Dots), Some(true)),
+    (Item::Atom(NotImpl), None),
+];
+
 #[test]
 fn truths(rt: HostRuntime) -> Result<(), Fail> {
-    let rows = [
-        (Item::Atom(Nil), Some(false)),
-        (Item::Atom(Bool(true)), Some(true)),
-        (Item::Atom(Int(0)), Some(false)),
-        (Item::Atom(Int(-1)), Some(true)),
-        (Item::Atom(Str("")), Some(false)),
-        (Item::Atom(Str("0")), Some(true)),
-        (Item::Atom(Raw("")), Some(false)),
-        (Zero, Some(false)),
-        (One(Nil), Some(true)),
-        (Item::Atom(Dots), Some(true)),
-        (Item::Atom(NotImpl), None),
-    ];
-    for (a, wanted) in rows {
+    for (a, wanted) in TRUTHS {
         assert_eq!(rt; plain_truth(&value(rt.alloc(), a)?).ok(), wanted);
     }
     Ok(())
