@@ -1,26 +1,24 @@
 -- What is kept by each step of the reading holds where the text ends.
-use Rattle.std.proofs.Common.{◌≡◌, ◌∙◌, ◌<◌, ◌≤◌, ◌+◌, ◌-◌, ◌==◌, ◌&&◌, nat_lt, ℕ, zero, suc, List, [], ◌∷◌, ◌++◌, length, take, drop, Bool, true, false, Option, Some, None, Result, Ok, Err, refl, sym, ap, subst, arith}
+use Rattle.std.proofs.Common.{◌≡◌, ◌∙◌, ◌<◌, ◌≤◌, ◌+◌, ◌-◌, ◌==◌, nat_lt, ℕ, zero, suc, List, [], ◌∷◌, ◌++◌, length, drop, Bool, true, false, Some, None, Ok, Err, refl, sym, ap, subst, arith}
 use Rattle.std.specs.Prelude.{if◌then◌else◌}
 use Rattle.std.proofs.lemmas.Grind.{common_steps}
 use Rattle.std.proofs.lemmas.List.{drop-drop}
 use Rattle.rp_base.specs.declared.rules.Rule.{Rule}
 use Rattle.rp_base.specs.declared.rules.Rule.TheVariants as rules
-use Rattle.rp_base.specs.declared.rules.Refused.{Refused}
 use Rattle.py_lexer.specs.declared.token.TokenKind.{TokenKind}
 use Rattle.py_lexer.specs.declared.token.TokenKind.TheVariants as tokens
 use Rattle.py_lexer.specs.declared.token.Token.{Token}
 use Rattle.py_lexer.specs.declared.piece.PieceKind.{PieceKind}
 use Rattle.py_lexer.specs.declared.piece.PieceKind.TheVariants as kinds
-use Rattle.py_lexer.specs.declared.piece.Piece.{Piece}
 use Rattle.py_lexer.specs.declared.reader.Margin.{Margin}
 use Rattle.py_lexer.specs.declared.reader.Margin.TheVariants as margins
 use Rattle.py_lexer.specs.Layout.{Place, Next, ◌>>=◌, start, refusal, longest_text, passed_to, passed, emitted, ended, next_line, with_newline, is_open_line, with_token, token_at, with_open, left_open, closed, deeper, matched, indented, top, tabbed, settled_by, settled, taken_by, taken, finished, last_line}
 use Rattle.py_lexer.specs.Pieces.{piece_of}
 use Rattle.py_lexer.specs.Slices.{Each}
 use Rattle.py_lexer.specs.Reading.{read_on, go_on, tokens_of}
-use Rattle.py_lexer.proofs.MoveLaws.{Goes, goes_on, goes_to, Stays, Moves, settled_stays, taken_moves}
+use Rattle.py_lexer.proofs.MoveLaws.{Goes, goes_on, goes_to, Stays, settled_stays, taken_moves}
 use Rattle.py_lexer.proofs.PieceLaws.{piece_some}
-use Rattle.py_lexer.proofs.PieceShapes.{Shape, Is, piece_is, Calm}
+use Rattle.py_lexer.proofs.PieceShapes.{Shape, piece_is}
 use Rattle.py_lexer.proofs.ReadingLaws.{passed_over, one_piece}
 
 -- said of places of a text, and kept by each change of a place
@@ -148,7 +146,7 @@ drop_further at (suc n) c text cs here some =
     let both : drop (suc n) (drop at text) ≡ drop (at + suc n) text = drop-drop (suc n) at text in
     ap (λ (k : ℕ). drop k cs) less ∙ sym (ap (λ (t : List ℕ). drop (suc n) t) here) ∙ both
 
-nothing_left : (p : Place) (ts : List Token) → read_on p 0 [] ≡ Ok ts → ts ≡ finished p
+pub nothing_left : (p : Place) (ts : List Token) → read_on p 0 [] ≡ Ok ts → ts ≡ finished p
 unfolding read_on
 nothing_left p ts e = cc
 

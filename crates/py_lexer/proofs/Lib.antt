@@ -1,8 +1,10 @@
 pub mod Examples
+pub mod FilledLaw
 pub mod Following
 pub mod FrontLaws
 pub mod ItemFronts
 pub mod LayoutLaws
+pub mod LineLaw
 pub mod LiteralLaws
 pub mod MatchLaw
 pub mod MoveLaws

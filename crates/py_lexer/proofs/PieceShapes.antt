@@ -1,10 +1,8 @@
 -- What a piece in front of a text is, in the words of the law about tokens.
-use Rattle.std.proofs.Common.{◌≡◌, ◌∙◌, ◌<◌, ◌≤◌, ◌+◌, ◌-◌, ◌==◌, ◌&&◌, ◌||◌, not, nat_lt, ◌⊎◌, inl, inr, ℕ, zero, suc, List, [], ◌∷◌, ◌++◌, length, take, drop, codes, Bool, true, false, Option, Some, None, option_map, refl, sym, ap, subst, arith}
+use Rattle.std.proofs.Common.{◌≡◌, ◌∙◌, ◌<◌, ◌≤◌, ◌+◌, ◌==◌, ◌&&◌, ◌||◌, not, nat_lt, inl, inr, ℕ, suc, List, [], ◌∷◌, ◌++◌, length, take, drop, codes, Bool, true, false, Option, Some, None, option_map, refl, sym, ap, subst, arith}
 use Rattle.std.specs.Prelude.{if◌then◌else◌}
 use Rattle.std.specs.List.{flat_map}
-use Rattle.std.proofs.lemmas.Bool.Decides.{nat_tests}
 use Rattle.std.proofs.lemmas.Grind.{common_steps}
-use Rattle.rp_base.specs.declared.rules.Rule.{Rule}
 use Rattle.rp_base.specs.declared.rules.Rule.TheVariants as rules
 use Rattle.py_lexer.specs.declared.token.TokenKind.{TokenKind}
 use Rattle.py_lexer.specs.declared.token.TokenKind.TheVariants as tokens
@@ -12,13 +10,13 @@ use Rattle.py_lexer.specs.declared.piece.PieceKind.{PieceKind}
 use Rattle.py_lexer.specs.declared.piece.PieceKind.TheVariants as kinds
 use Rattle.py_lexer.specs.declared.piece.Piece.{Piece}
 use Rattle.py_lexer.specs.Spellings.{is_of, is_quote, is_digit, is_name_start, is_name_byte, is_number_byte, front_size, name_size, number_size, is_keyword, is_prefix, is_int, is_one_of, signs, sign_size, line_end_size, comment_size, is_feed}
-use Rattle.py_lexer.specs.Literals.{is_hex, is_code, is_surrogate, literal_size}
+use Rattle.py_lexer.specs.Literals.{is_hex, is_surrogate, literal_size}
 use Rattle.py_lexer.specs.Items.{Item, Byte, Mark, Hex, Code, IsLiteral, spelled, is_plain, is_mark, may_stand, all_may_stand, body, opening}
-use Rattle.py_lexer.specs.Pieces.{piece, token, refused, starts, is_bytes, sized, literal_piece, is_twice, text_piece, bytes_piece, number_piece, longest_name, word_of, word_piece, sign_of, mark_piece, piece_by, piece_of}
-use Rattle.py_lexer.specs.Slices.{all_pass, is_name, IsLineEnd, Spells, blank_size}
+use Rattle.py_lexer.specs.Pieces.{piece, token, refused, starts, is_bytes, sized, literal_piece, is_twice, text_piece, bytes_piece, number_piece, longest_name, word_piece, mark_piece, piece_of}
+use Rattle.py_lexer.specs.Slices.{all_pass, is_name, IsLineEnd, blank_size}
 use Rattle.py_lexer.specs.Lines.{feeds}
 use Rattle.py_lexer.proofs.FrontLaws.{front_within, front_passes, no_feeds, sign_is_one, sign_calm, sign_within}
-use Rattle.py_lexer.proofs.ItemFronts.{IsBody, literal_body}
+use Rattle.py_lexer.proofs.ItemFronts.{literal_body}
 
 -- a token that a piece makes
 abbrev pub Reads : TokenKind → List ℕ → Type 0
@@ -111,7 +109,7 @@ closer_is c cs h = by_sign (c == 41) (c == 93) (c == 125) refl refl refl h
 
 -- ---- literals
 
-feeds_both : (xs ys : List ℕ) → feeds (xs ++ ys) ≡ feeds xs + feeds ys
+pub feeds_both : (xs ys : List ℕ) → feeds (xs ++ ys) ≡ feeds xs + feeds ys
 feeds_both [] ys = omega arith
 feeds_both (c ∷ cs) ys = by_test (c == 10) (feeds_both cs ys)
   where
