@@ -1,5 +1,6 @@
 -- What a piece in front of a text is, in the words of the law about tokens.
 use Rattle.std.proofs.Common.{◌≡◌, ◌∙◌, ◌<◌, ◌≤◌, ◌+◌, ◌==◌, ◌&&◌, ◌||◌, not, nat_lt, inl, inr, ℕ, suc, List, [], ◌∷◌, ◌++◌, length, take, drop, codes, Bool, true, false, Option, Some, None, option_map, refl, sym, ap, subst, arith}
+use Rattle.std.proofs.lemmas.Bool.{and_parts}
 use Rattle.std.specs.Prelude.{if◌then◌else◌}
 use Rattle.std.specs.List.{flat_map}
 use Rattle.std.proofs.lemmas.Grind.{common_steps}
@@ -124,24 +125,20 @@ other_than_feed p c low h = by_test (c == 10) refl
     by_test true e = let same : c ≡ 10 = grind arith in let passes : p 10 ≡ true = sym (ap p same) ∙ h in cc
     by_test false e = refl
 
-and_parts_of : (s t : Bool) → s && t ≡ true → (s ≡ true) × (t ≡ true)
-and_parts_of true t h = (refl, h)
-and_parts_of false t h = cc
-
 item_calm : (b : Bool) (q : ℕ) (i : Item) → may_stand b q i ≡ true → feeds (spelled i) ≡ 0
-item_calm b q (Byte c) h = let plain = and_parts_of (not (c == q)) (is_plain b c) h in let low : (c == 10) ≡ false = other_than_feed (is_plain b) c refl plain.1 in rw low refl
+item_calm b q (Byte c) h = let plain = and_parts (not (c == q)) (is_plain b c) h in let low : (c == 10) ≡ false = other_than_feed (is_plain b) c refl plain.1 in rw low refl
 item_calm b q (Mark c) h = let low : (c == 10) ≡ false = other_than_feed is_mark c refl h in rw low refl
 item_calm b q (Hex x y) h =
-    let parts = and_parts_of (is_hex x) (is_hex y) h in
+    let parts = and_parts (is_hex x) (is_hex y) h in
     let first : (x == 10) ≡ false = other_than_feed is_hex x refl parts.0 in
     let second : (y == 10) ≡ false = other_than_feed is_hex y refl parts.1 in
     rw (first, second) refl
 item_calm true q (Code x y z w) h = cc
 item_calm false q (Code x y z w) h =
-    let all = and_parts_of (is_hex x && is_hex y && is_hex z && is_hex w) (not (is_surrogate x y)) h in
-    let three = and_parts_of (is_hex x && is_hex y && is_hex z) (is_hex w) all.0 in
-    let two = and_parts_of (is_hex x && is_hex y) (is_hex z) three.0 in
-    let one = and_parts_of (is_hex x) (is_hex y) two.0 in
+    let all = and_parts (is_hex x && is_hex y && is_hex z && is_hex w) (not (is_surrogate x y)) h in
+    let three = and_parts (is_hex x && is_hex y && is_hex z) (is_hex w) all.0 in
+    let two = and_parts (is_hex x && is_hex y) (is_hex z) three.0 in
+    let one = and_parts (is_hex x) (is_hex y) two.0 in
     let first : (x == 10) ≡ false = other_than_feed is_hex x refl one.0 in
     let second : (y == 10) ≡ false = other_than_feed is_hex y refl one.1 in
     let third : (z == 10) ≡ false = other_than_feed is_hex z refl two.1 in
@@ -151,7 +148,7 @@ item_calm false q (Code x y z w) h =
 items_calm : (b : Bool) (q : ℕ) (items : List Item) → all_may_stand b q items ≡ true → feeds (flat_map spelled items) ≡ 0
 items_calm b q [] h = refl
 items_calm b q (i ∷ is) h =
-    let parts = and_parts_of (may_stand b q i) (all_may_stand b q is) h in
+    let parts = and_parts (may_stand b q i) (all_may_stand b q is) h in
     let first = item_calm b q i parts.0 in
     let more = items_calm b q is parts.1 in
     let both = feeds_both (spelled i) (flat_map spelled is) in
@@ -211,7 +208,7 @@ bytes_in_front c [] h = absurd (no_start (c == 98) h)
     no_start : (b : Bool) → b && false ≡ true → ⊥
     no_start true e = cc
     no_start false e = cc
-bytes_in_front c (d ∷ cs) h = let parts = and_parts_of (c == 98) (is_quote d) h in bytes_is c d cs parts.0 parts.1
+bytes_in_front c (d ∷ cs) h = let parts = and_parts (c == 98) (is_quote d) h in bytes_is c d cs parts.0 parts.1
 
 -- ---- numbers, names and signs
 
