@@ -125,7 +125,7 @@ within_of kinds.Opener n text p q s e = s.1.0
 within_of kinds.Closer n text p q s e = s.1.0
 within_of (kinds.Refused rule) n text p q s e = absurd (never_goes rule n p q e)
 
-piece_kept : (text : List ℕ) (Inv : Place → Type 0) → Kept text Inv → (p q : Place) (c : ℕ) (cs : List ℕ) → drop p.at text ≡ c ∷ cs → p.at < length text → taken (piece_of (c ∷ cs)) p ≡ Ok q → Inv p
+pub piece_kept : (text : List ℕ) (Inv : Place → Type 0) → Kept text Inv → (p q : Place) (c : ℕ) (cs : List ℕ) → drop p.at text ≡ c ∷ cs → p.at < length text → taken (piece_of (c ∷ cs)) p ≡ Ok q → Inv p
     → Inv q × ((piece_of (c ∷ cs)).size ≤ length (c ∷ cs))
 unfolding taken
 piece_kept text Inv kept p q c cs here low e h =
@@ -139,7 +139,7 @@ pub record Ended (text : List ℕ) (Inv : Place → Type 0) (ts : List Token) : 
   pub at_end : last.at ≡ length text
   pub are : ts ≡ finished last
 
-drop_further : (at n c : ℕ) (text cs : List ℕ) → drop at text ≡ c ∷ cs → 0 < n → drop (n - 1) cs ≡ drop (at + n) text
+pub drop_further : (at n c : ℕ) (text cs : List ℕ) → drop at text ≡ c ∷ cs → 0 < n → drop (n - 1) cs ≡ drop (at + n) text
 drop_further at zero c text cs here some = absurd (omega (arith, some))
 drop_further at (suc n) c text cs here some =
     let less : suc n - 1 ≡ n = omega arith in

@@ -12,6 +12,7 @@ pub mod OrderLaws
 pub mod PieceLaws
 pub mod PieceShapes
 pub mod ReadingLaws
+pub mod RefusalLaw
 pub mod SignLaws
 pub mod SizeLaws
 pub mod SpelledLaw

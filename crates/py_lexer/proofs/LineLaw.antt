@@ -49,7 +49,7 @@ pub record Lined (text : List ℕ) (ts : List Token) (at line begin : ℕ) : Typ
   pub own : feeds (take begin text) ≡ feeds (take at text)
   pub first : (begin ≡ 0) ⊎ ((0 < begin) × (feeds (take (begin - 1) text) + 1 ≡ feeds (take begin text)))
 
-abbrev LinedAt : List ℕ → Place → Type 0
+abbrev pub LinedAt : List ℕ → Place → Type 0
 LinedAt text p = Lined text p.tokens p.at p.line p.line_start
 
 inside : (text : List ℕ) (at n : ℕ) → 0 < n → n ≤ length (drop at text) → at < length text
@@ -73,7 +73,7 @@ end_on text ts us at n line begin fits is each h =
     let here = h.here in
     record { each = each; here = omega (arith, here, more, ends.0); begun = omega arith; own = refl; first = inr (omega (arith, ends.2), omega (arith, back, less, more, ends.0, ends.1)) }
 
-lined_kept : (text : List ℕ) → Kept text (LinedAt text)
+pub lined_kept : (text : List ℕ) → Kept text (LinedAt text)
 lined_kept text = record {
   turns = λ p m b h. h;
   deepens = λ p w low more h. record { each = each_push (IsOnLine text) p.tokens (token_at tokens.Indent p.at p.at p.line) h.each (on_line text tokens.Indent p.at p.at p.line low h.here); here = h.here; begun = h.begun; own = h.own; first = h.first };

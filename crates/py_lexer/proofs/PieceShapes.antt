@@ -1,6 +1,6 @@
 -- What a piece in front of a text is, in the words of the law about tokens.
-use Rattle.std.proofs.Common.{◌≡◌, ◌∙◌, ◌<◌, ◌≤◌, ◌+◌, ◌==◌, ◌&&◌, ◌||◌, not, nat_lt, inl, inr, ℕ, suc, List, [], ◌∷◌, ◌++◌, length, take, drop, codes, Bool, true, false, Option, Some, None, option_map, refl, sym, ap, subst, arith}
-use Rattle.std.proofs.lemmas.Bool.{and_parts}
+use Rattle.std.proofs.Common.{◌≡◌, ◌∙◌, ◌<◌, ◌≤◌, ◌+◌, ◌==◌, ◌&&◌, ◌||◌, not, nat_lt, inl, inr, ℕ, zero, suc, suc, List, [], ◌∷◌, ◌++◌, length, take, drop, codes, Bool, true, false, Option, Some, None, option_map, refl, sym, ap, subst, arith}
+use Rattle.std.proofs.lemmas.Bool.{and_from, and_parts}
 use Rattle.std.specs.Prelude.{if◌then◌else◌}
 use Rattle.std.specs.List.{flat_map}
 use Rattle.std.proofs.lemmas.Grind.{common_steps}
@@ -16,6 +16,7 @@ use Rattle.py_lexer.specs.Items.{Item, Byte, Mark, Hex, Code, IsLiteral, spelled
 use Rattle.py_lexer.specs.Pieces.{piece, token, refused, starts, is_bytes, sized, literal_piece, is_twice, text_piece, bytes_piece, number_piece, longest_name, word_piece, mark_piece, piece_of}
 use Rattle.py_lexer.specs.Slices.{all_pass, is_name, IsLineEnd, blank_size}
 use Rattle.py_lexer.specs.Lines.{feeds}
+use Rattle.py_lexer.specs.Refusals.{Causes, begins_none}
 use Rattle.py_lexer.proofs.FrontLaws.{front_within, front_passes, no_feeds, sign_is_one, sign_calm, sign_within}
 use Rattle.py_lexer.proofs.ItemFronts.{literal_body}
 
@@ -43,7 +44,7 @@ Shape kinds.LineEnd n text = (blank_size text ≡ n) × ((n ≤ length text) × 
 Shape (kinds.Token k) n text = Reads k (take n text) × Calm n text
 Shape kinds.Opener n text = Reads tokens.Sign (take n text) × Calm n text
 Shape kinds.Closer n text = Reads tokens.Sign (take n text) × Calm n text
-Shape (kinds.Refused rule) n text = Unit {0}
+Shape (kinds.Refused rule) n text = Causes rule text
 
 abbrev pub Is : List ℕ → Piece → Type 0
 Is text x = Shape x.kind x.size text
@@ -243,7 +244,7 @@ word_is c cs h =
     let text = c ∷ cs in
     let n = name_size (c ∷ cs) in
     let calm : Calm (name_size (c ∷ cs)) (c ∷ cs) = (front_within is_name_byte (c ∷ cs), no_feeds is_name_byte (take (name_size (c ∷ cs)) (c ∷ cs)) refl (front_passes is_name_byte (c ∷ cs))) in
-    either text (nat_lt longest_name n) _ _ (λ _. tt)
+    either text (nat_lt longest_name n) _ _ (λ long. and_from (is_name_start c) (nat_lt longest_name n) h long)
     (λ short. either text (starts is_quote (drop n text) && is_prefix (take n text)) _ _ (λ _. tt) (λ _. either text (is_keyword (take n text)) (token tokens.Keyword n) (token tokens.Name n) (λ key. (key, calm)) (λ plain. (name_is c cs h short plain, calm))))
 
 sign_is : (text : List ℕ) → 0 < sign_size text → sign_size text ≤ length text → Is text (token tokens.Sign (sign_size text))
@@ -263,11 +264,25 @@ line_end_is c cs h space tab hash = (rw (space, tab, hash) refl, ends (c == 10) 
         by_feed true z some = let first : c ≡ 13 = grind arith in let second : d ≡ 10 = grind arith in (omega arith, inr (ap (λ (k : ℕ). k ∷ d ∷ []) first ∙ ap (λ (k : ℕ). 13 ∷ k ∷ []) second))
         by_feed false z some = cc
 
-mark_is : (c : ℕ) (cs : List ℕ) → (c == 32) ≡ false → (c == 9) ≡ false → (c == 35) ≡ false → Is (c ∷ cs) (mark_piece (c ∷ cs))
+none_begins : (c : ℕ) (cs : List ℕ) → (c == 32) ≡ false → (c == 9) ≡ false → (c == 35) ≡ false → is_quote c ≡ false → is_digit c ≡ false → is_name_start c ≡ false
+    → nat_lt 0 (line_end_size (c ∷ cs)) ≡ false → nat_lt 0 (sign_size (c ∷ cs)) ≡ false → begins_none (c ∷ cs) ≡ true
+none_begins c cs space tab hash quote digit name no_end no_sign =
+    let blank : is_of (32 ∷ 9 ∷ 35 ∷ []) c ≡ false = rw (space, tab, hash) refl in
+    all_six (is_of (32 ∷ 9 ∷ 35 ∷ []) c) (is_quote c) (is_digit c) (is_name_start c) (line_end_size (c ∷ cs) == 0) (sign_size (c ∷ cs) == 0) blank quote digit name (zero_of (line_end_size (c ∷ cs)) no_end) (zero_of (sign_size (c ∷ cs)) no_sign)
+  where
+    zero_of : (n : ℕ) → nat_lt 0 n ≡ false → (n == 0) ≡ true
+    zero_of zero h = refl
+    zero_of (suc n) h = absurd (let low : suc n ≤ 0 = grind arith in omega (arith, low))
+
+    all_six : (a b d e f g : Bool) → a ≡ false → b ≡ false → d ≡ false → e ≡ false → f ≡ true → g ≡ true → not a && not b && not d && not e && f && g ≡ true
+    all_six a b d e f g h i j k l m = rw (h, i, j, k, l, m) refl
+
+mark_is : (c : ℕ) (cs : List ℕ) → (c == 32) ≡ false → (c == 9) ≡ false → (c == 35) ≡ false → is_quote c ≡ false → is_digit c ≡ false → is_name_start c ≡ false → Is (c ∷ cs) (mark_piece (c ∷ cs))
 unfolding mark_piece
-mark_is c cs space tab hash =
+mark_is c cs space tab hash quote digit name =
     either (c ∷ cs) (nat_lt 0 (line_end_size (c ∷ cs))) _ _ (λ h. line_end_is c cs h space tab hash)
-    (λ _. either (c ∷ cs) (nat_lt 0 (sign_size (c ∷ cs))) _ _ (λ h. let some : 0 < sign_size (c ∷ cs) = grind arith in sign_is (c ∷ cs) some (sign_within (c ∷ cs))) (λ _. tt))
+    (λ no_end. either (c ∷ cs) (nat_lt 0 (sign_size (c ∷ cs))) _ _ (λ h. let some : 0 < sign_size (c ∷ cs) = grind arith in sign_is (c ∷ cs) some (sign_within (c ∷ cs)))
+    (λ no_sign. none_begins c cs space tab hash quote digit name no_end no_sign))
 
 pub piece_is : (c : ℕ) (cs : List ℕ) → Is (c ∷ cs) (piece_of (c ∷ cs))
 unfolding piece_of
@@ -279,7 +294,7 @@ piece_is c cs =
     (λ hash. either text (is_of (codes "([{") c) _ _ (λ h. opener_is c cs h)
     (λ _. either text (is_of (codes ")]}") c) _ _ (λ h. closer_is c cs h)
     (λ _. either text (is_quote c) _ _ (λ h. text_is c cs h)
-    (λ _. either text ((c == 98) && starts is_quote cs) _ _ (λ h. bytes_in_front c cs h)
+    (λ quote. either text ((c == 98) && starts is_quote cs) _ _ (λ h. bytes_in_front c cs h)
     (λ _. either text ((c == 46) && starts is_digit cs) _ _ (λ _. tt)
     (λ _. either text (is_digit c) _ _ (λ _. number_is text)
-    (λ _. either text (is_name_start c) _ _ (λ h. word_is c cs h) (λ _. mark_is c cs space tab hash))))))))))
+    (λ digit. either text (is_name_start c) _ _ (λ h. word_is c cs h) (λ name. mark_is c cs space tab hash quote digit name))))))))))
