@@ -44,10 +44,10 @@ word_begins text word h = sym ((bytes_eq-Decides word (take (length word) text))
 word_is : (word : List ℕ) → bytes_eq word word ≡ true
 word_is word = (bytes_eq-Decides word word).1 refl
 
-or_left : (a b : Bool) → a ≡ true → a || b ≡ true
+pub or_left : (a b : Bool) → a ≡ true → a || b ≡ true
 or_left a b h = rw h refl
 
-or_right : (a b : Bool) → b ≡ true → a || b ≡ true
+pub or_right : (a b : Bool) → b ≡ true → a || b ≡ true
 or_right true b h = refl
 or_right false b h = h
 

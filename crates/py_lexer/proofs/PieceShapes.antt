@@ -16,8 +16,8 @@ use Rattle.py_lexer.specs.Items.{Item, Byte, Mark, Hex, Code, IsLiteral, spelled
 use Rattle.py_lexer.specs.Pieces.{piece, token, refused, starts, is_bytes, sized, literal_piece, is_twice, text_piece, bytes_piece, number_piece, longest_name, word_piece, mark_piece, piece_of}
 use Rattle.py_lexer.specs.Slices.{all_pass, is_name, IsLineEnd, blank_size}
 use Rattle.py_lexer.specs.Lines.{feeds}
-use Rattle.py_lexer.specs.Refusals.{Causes, begins_none}
-use Rattle.py_lexer.proofs.FrontLaws.{front_within, front_passes, no_feeds, sign_is_one, sign_calm, sign_within}
+use Rattle.py_lexer.specs.Refusals.{Causes, begins_literal, begins_none}
+use Rattle.py_lexer.proofs.FrontLaws.{or_left, or_right, front_within, front_passes, no_feeds, sign_is_one, sign_calm, sign_within}
 use Rattle.py_lexer.proofs.ItemFronts.{literal_body}
 
 -- a token that a piece makes
@@ -165,6 +165,26 @@ body_calm b q items h s =
     let both = feeds_both (flat_map spelled items) (q ∷ []) in
     omega (arith, first, last, both)
 
+-- what begins a literal
+by_quote : (c : ℕ) (cs : List ℕ) → is_quote c ≡ true → begins_literal (c ∷ cs) ≡ true
+by_quote c cs h = rw h refl
+
+by_digit : (c : ℕ) (cs : List ℕ) → is_digit c ≡ true → begins_literal (c ∷ cs) ≡ true
+by_digit c cs h = or_left _ _ (or_left _ _ (or_left _ _ (or_right (is_quote c) (is_digit c) h)))
+
+by_point : (c : ℕ) (cs : List ℕ) → (c == 46) && starts is_digit cs ≡ true → begins_literal (c ∷ cs) ≡ true
+by_point c cs h = or_left _ _ (or_left _ _ (or_right (is_quote c || is_digit c) ((c == 46) && starts is_digit cs) h))
+
+by_b : (c : ℕ) (cs : List ℕ) → (c == 98) && starts is_quote cs ≡ true → begins_literal (c ∷ cs) ≡ true
+by_b c cs h = or_left _ _ (or_right (is_quote c || is_digit c || ((c == 46) && starts is_digit cs)) ((c == 98) && starts is_quote cs) h)
+
+by_prefix : (c : ℕ) (cs : List ℕ) → starts is_quote (drop (name_size (c ∷ cs)) (c ∷ cs)) && is_prefix (take (name_size (c ∷ cs)) (c ∷ cs)) ≡ true → begins_literal (c ∷ cs) ≡ true
+by_prefix c cs h = or_right (is_quote c || is_digit c || ((c == 46) && starts is_digit cs) || ((c == 98) && starts is_quote cs)) (starts is_quote (drop (name_size (c ∷ cs)) (c ∷ cs)) && is_prefix (take (name_size (c ∷ cs)) (c ∷ cs))) h
+
+by_opening : (b : Bool) (q : ℕ) (rest : List ℕ) → is_quote q ≡ true → begins_literal (opening b q ++ rest) ≡ true
+by_opening true q rest h = by_b 98 (q ∷ rest) h
+by_opening false q rest h = by_quote q rest h
+
 -- a literal behind its opening
 literal_is : (b : Bool) (k : TokenKind) (q n : ℕ) (rest : List ℕ) → is_quote q ≡ true → is_bytes k ≡ b → ((s : List ℕ) → IsLiteral b s → Reads k s) → literal_size q b 0 rest ≡ Some n
     → Is (opening b q ++ rest) (token k (length (opening b q) + n))
@@ -189,19 +209,19 @@ literal_is b k q n rest h kind reads e =
 
 sized_is : (b : Bool) (k : TokenKind) (q : ℕ) (rest : List ℕ) (x : Option ℕ) → is_quote q ≡ true → is_bytes k ≡ b → ((s : List ℕ) → IsLiteral b s → Reads k s) → literal_size q b 0 rest ≡ x
     → Is (opening b q ++ rest) (sized k (option_map (λ n. length (opening b q) + n) x))
-sized_is b k q rest None h kind reads e = tt
+sized_is b k q rest None h kind reads e = by_opening b q rest h
 sized_is b k q rest (Some n) h kind reads e = literal_is b k q n rest h kind reads e
 
 text_is : (c : ℕ) (cs : List ℕ) → is_quote c ≡ true → Is (c ∷ cs) (text_piece (c ∷ cs))
 unfolding text_piece
-text_is c cs h = either (c ∷ cs) (is_twice c cs) (refused rules.L4) (literal_piece tokens.Text c 1 (c ∷ cs)) (λ _. tt) (λ _. sized_is false tokens.Text c cs (literal_size c false 0 cs) h refl (λ s l. l) refl)
+text_is c cs h = either (c ∷ cs) (is_twice c cs) (refused rules.L4) (literal_piece tokens.Text c 1 (c ∷ cs)) (λ _. by_quote c cs h) (λ _. sized_is false tokens.Text c cs (literal_size c false 0 cs) h refl (λ s l. l) refl)
 
 bytes_is : (c d : ℕ) (cs : List ℕ) → (c == 98) ≡ true → is_quote d ≡ true → Is (c ∷ d ∷ cs) (bytes_piece (c ∷ d ∷ cs))
 unfolding bytes_piece
 bytes_is c d cs b h =
     let same : 98 ≡ c = grind arith in
     subst (λ (k : ℕ). Is (k ∷ d ∷ cs) (bytes_piece (k ∷ d ∷ cs))) same
-    (either (98 ∷ d ∷ cs) (is_twice d cs) (refused rules.L4) (literal_piece tokens.Bytes d 2 (98 ∷ d ∷ cs)) (λ _. tt) (λ _. sized_is true tokens.Bytes d cs (literal_size d true 0 cs) h refl (λ s l. l) refl))
+    (either (98 ∷ d ∷ cs) (is_twice d cs) (refused rules.L4) (literal_piece tokens.Bytes d 2 (98 ∷ d ∷ cs)) (λ _. by_opening true d cs h) (λ _. sized_is true tokens.Bytes d cs (literal_size d true 0 cs) h refl (λ s l. l) refl))
 
 bytes_in_front : (c : ℕ) (cs : List ℕ) → ((c == 98) && starts is_quote cs) ≡ true → Is (c ∷ cs) (bytes_piece (c ∷ cs))
 bytes_in_front c [] h = absurd (no_start (c == 98) h)
@@ -213,11 +233,12 @@ bytes_in_front c (d ∷ cs) h = let parts = and_parts (c == 98) (is_quote d) h i
 
 -- ---- numbers, names and signs
 
-number_is : (text : List ℕ) → Is text (number_piece text)
+number_is : (c : ℕ) (cs : List ℕ) → is_digit c ≡ true → Is (c ∷ cs) (number_piece (c ∷ cs))
 unfolding number_piece
-number_is text =
+number_is c cs digit =
+    let text = c ∷ cs in
     either text (is_int (take (number_size text) text)) (token tokens.Int (number_size text)) (refused rules.L4)
-    (λ h. (h, (front_within is_number_byte text, no_feeds is_number_byte (take (number_size text) text) refl (front_passes is_number_byte text)))) (λ _. tt)
+    (λ h. (h, (front_within is_number_byte text, no_feeds is_number_byte (take (number_size text) text) refl (front_passes is_number_byte text)))) (λ _. by_digit c cs digit)
 
 name_is : (c : ℕ) (cs : List ℕ) → is_name_start c ≡ true → nat_lt longest_name (name_size (c ∷ cs)) ≡ false → is_keyword (take (name_size (c ∷ cs)) (c ∷ cs)) ≡ false → is_name (take (name_size (c ∷ cs)) (c ∷ cs)) ≡ true
 name_is c cs h short plain =
@@ -245,7 +266,7 @@ word_is c cs h =
     let n = name_size (c ∷ cs) in
     let calm : Calm (name_size (c ∷ cs)) (c ∷ cs) = (front_within is_name_byte (c ∷ cs), no_feeds is_name_byte (take (name_size (c ∷ cs)) (c ∷ cs)) refl (front_passes is_name_byte (c ∷ cs))) in
     either text (nat_lt longest_name n) _ _ (λ long. and_from (is_name_start c) (nat_lt longest_name n) h long)
-    (λ short. either text (starts is_quote (drop n text) && is_prefix (take n text)) _ _ (λ _. tt) (λ _. either text (is_keyword (take n text)) (token tokens.Keyword n) (token tokens.Name n) (λ key. (key, calm)) (λ plain. (name_is c cs h short plain, calm))))
+    (λ short. either text (starts is_quote (drop n text) && is_prefix (take n text)) _ _ (λ before. by_prefix c cs before) (λ _. either text (is_keyword (take n text)) (token tokens.Keyword n) (token tokens.Name n) (λ key. (key, calm)) (λ plain. (name_is c cs h short plain, calm))))
 
 sign_is : (text : List ℕ) → 0 < sign_size text → sign_size text ≤ length text → Is text (token tokens.Sign (sign_size text))
 sign_is text some within = let one = sign_is_one text some in (one, (within, sign_calm (take (sign_size text) text) one))
@@ -295,6 +316,6 @@ piece_is c cs =
     (λ _. either text (is_of (codes ")]}") c) _ _ (λ h. closer_is c cs h)
     (λ _. either text (is_quote c) _ _ (λ h. text_is c cs h)
     (λ quote. either text ((c == 98) && starts is_quote cs) _ _ (λ h. bytes_in_front c cs h)
-    (λ _. either text ((c == 46) && starts is_digit cs) _ _ (λ _. tt)
-    (λ _. either text (is_digit c) _ _ (λ _. number_is text)
+    (λ _. either text ((c == 46) && starts is_digit cs) _ _ (λ h. by_point c cs h)
+    (λ _. either text (is_digit c) _ _ (λ h. number_is c cs h)
     (λ digit. either text (is_name_start c) _ _ (λ h. word_is c cs h) (λ name. mark_is c cs space tab hash quote digit name))))))))))

@@ -39,7 +39,7 @@ pub fn blanks_stand_between_tokens()
 {}
 
 /// A text is refused at a place in it, on the line of that place, and what stands there is the cause: a character that
-/// begins nothing (L3), or a name that is too long (L5).
+/// begins nothing (L3), the begin of a number or a string (L4), or a name that is too long (L5).
 pub fn refusals_have_their_places()
     ensures { (text : List ℕ) (r : Refused) → tokens_of text ≡ Err r → (at : ℕ) × IsRefusedAt text r at }
 {}
