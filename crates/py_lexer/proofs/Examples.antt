@@ -5,7 +5,7 @@ use Rattle.rp_base.specs.declared.rules.Rule.TheVariants as rules
 use Rattle.py_lexer.specs.declared.token.TokenKind.TheVariants as tokens
 use Rattle.py_lexer.specs.Layout.{token_at, refusal}
 use Rattle.py_lexer.specs.Reading.{tokens_of}
-use Rattle.py_lexer.specs.Items.{Item, Hex, IsLiteral}
+use Rattle.py_lexer.specs.Items.{Hex, IsLiteral}
 use Rattle.py_lexer.specs.Lines.{line_at}
 use Rattle.py_lexer.specs.Refusals.{begins_none, begins_literal}
 use Rattle.py_lexer.specs.Slices.{slice, is_name, blank_size}

@@ -1,6 +1,6 @@
 -- The tokens of ints, texts and byte strings have values.
-use Rattle.std.proofs.Common.{◌≡◌, ◌∙◌, ℕ, List, [], ◌∷◌, drop, Ok, Some, pos, true, false, refl, ap}
-use Rattle.std.specs.Prelude.{is_some, if◌then◌else◌}
+use Rattle.std.proofs.Common.{◌≡◌, ℕ, List, [], ◌∷◌, drop, Ok, true, refl, ap}
+use Rattle.std.specs.Prelude.{is_some}
 use Rattle.py_lexer.specs.declared.token.TokenKind.{TokenKind}
 use Rattle.py_lexer.specs.declared.token.TokenKind.TheVariants as tokens
 use Rattle.py_lexer.specs.declared.token.Token.{Token}
@@ -8,7 +8,7 @@ use Rattle.py_lexer.specs.Reading.{tokens_of}
 use Rattle.py_lexer.specs.Slices.{Each, IsSpelled, Spells, slice}
 use Rattle.py_lexer.specs.Spellings.{is_int}
 use Rattle.py_lexer.proofs.SpelledLaw.{all_spelled}
-use Rattle.py_literals.specs.IntValues.{int_literal_value, number_of}
+use Rattle.py_literals.specs.IntValues.{int_literal_value}
 use Rattle.py_literals.specs.Tokens.{HasValue, TokenHasValue}
 use Rattle.py_literals.proofs.WholeLaws.{text_has_value, bytes_have_value}
 
