@@ -1,10 +1,14 @@
 -- Worked texts, computed by the checker.
-use Rattle.std.proofs.Common.{◌≡◌, [], ◌∷◌, ◌++◌, Ok, Err, refl}
+use Rattle.std.proofs.Common.{◌≡◌, [], ◌∷◌, ◌++◌, true, false, Ok, Err, refl}
 use Rattle.std.specs.Prelude.{codes}
 use Rattle.rp_base.specs.declared.rules.Rule.TheVariants as rules
 use Rattle.py_lexer.specs.declared.token.TokenKind.TheVariants as tokens
 use Rattle.py_lexer.specs.Layout.{token_at, refusal}
 use Rattle.py_lexer.specs.Reading.{tokens_of}
+use Rattle.py_lexer.specs.Items.{Hex, IsLiteral}
+use Rattle.py_lexer.specs.Lines.{line_at}
+use Rattle.py_lexer.specs.Refusals.{begins_none, begins_literal}
+use Rattle.py_lexer.specs.Slices.{slice, is_name, blank_size}
 use Rattle.py_lexer.specs.Computing.{lexing_computes}
 
 -- no byte
@@ -96,3 +100,59 @@ prefix_refused = refl
 pub long_name_refused : tokens_of (codes "aaaaaaaaaaaaaaaaaaaaaaaaaaaaaaaaaaaaaaaaaaaaaaaaaaaaaaaaaaaaaaaaa") ≡ Err (refusal 1 rules.L5)
 unfolding lexing_computes
 long_name_refused = refl
+
+-- ---- the words of the laws
+
+-- a name, and what is none
+pub name_is : is_name (codes "_x1") ≡ true
+unfolding lexing_computes
+name_is = refl
+
+pub keyword_is_no_name : is_name (codes "if") ≡ false
+unfolding lexing_computes
+keyword_is_no_name = refl
+
+-- the bytes of the second token of x = 1
+pub second_slice : slice (codes "x = 1") (token_at tokens.Sign 2 3 1) ≡ codes "="
+second_slice = refl
+
+-- a comment up to the end of its line, and that end
+pub comment_blank : blank_size (codes "# b" ++ 13 ∷ 10 ∷ codes "c") ≡ 3
+unfolding lexing_computes
+comment_blank = refl
+
+pub line_end_blank : blank_size (13 ∷ 10 ∷ codes "c") ≡ 2
+unfolding lexing_computes
+line_end_blank = refl
+
+pub letter_is_no_blank : blank_size (codes "c") ≡ 0
+unfolding lexing_computes
+letter_is_no_blank = refl
+
+-- the third line begins behind the second feed
+pub third_line : line_at (codes "a" ++ 10 ∷ 10 ∷ codes "b") 3 ≡ 3
+third_line = refl
+
+pub second_line : line_at (codes "a" ++ 10 ∷ 10 ∷ codes "b") 2 ≡ 2
+second_line = refl
+
+-- b'\x41' is a literal of one item, and its b belongs to it
+pub bytes_literal : IsLiteral true (98 ∷ 39 ∷ 92 ∷ codes "x41" ++ 39 ∷ [])
+bytes_literal = record { quote = 39; items = Hex 52 49 ∷ []; quoted = refl; stand = refl; whole = refl }
+
+-- $ begins nothing, and a lone carriage return neither
+pub dollar_begins_none : begins_none (codes "$") ≡ true
+unfolding lexing_computes
+dollar_begins_none = refl
+
+pub return_begins_none : begins_none (13 ∷ codes "x") ≡ true
+unfolding lexing_computes
+return_begins_none = refl
+
+pub point_and_digit : begins_literal (codes ".5") ≡ true
+unfolding lexing_computes
+point_and_digit = refl
+
+pub point_alone : begins_literal (codes ".x") ≡ false
+unfolding lexing_computes
+point_alone = refl

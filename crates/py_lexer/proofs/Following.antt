@@ -1,26 +1,24 @@
 -- What is kept by each step of the reading holds where the text ends.
-use Rattle.std.proofs.Common.{◌≡◌, ◌∙◌, ◌<◌, ◌≤◌, ◌+◌, ◌-◌, ◌==◌, ◌&&◌, nat_lt, ℕ, zero, suc, List, [], ◌∷◌, ◌++◌, length, take, drop, Bool, true, false, Option, Some, None, Result, Ok, Err, refl, sym, ap, subst, arith}
+use Rattle.std.proofs.Common.{◌≡◌, ◌∙◌, ◌<◌, ◌≤◌, ◌+◌, ◌-◌, ◌==◌, nat_lt, ℕ, zero, suc, List, [], ◌∷◌, ◌++◌, length, drop, Bool, true, false, Some, None, Ok, Err, refl, sym, ap, subst, arith}
 use Rattle.std.specs.Prelude.{if◌then◌else◌}
 use Rattle.std.proofs.lemmas.Grind.{common_steps}
 use Rattle.std.proofs.lemmas.List.{drop-drop}
 use Rattle.rp_base.specs.declared.rules.Rule.{Rule}
 use Rattle.rp_base.specs.declared.rules.Rule.TheVariants as rules
-use Rattle.rp_base.specs.declared.rules.Refused.{Refused}
 use Rattle.py_lexer.specs.declared.token.TokenKind.{TokenKind}
 use Rattle.py_lexer.specs.declared.token.TokenKind.TheVariants as tokens
 use Rattle.py_lexer.specs.declared.token.Token.{Token}
 use Rattle.py_lexer.specs.declared.piece.PieceKind.{PieceKind}
 use Rattle.py_lexer.specs.declared.piece.PieceKind.TheVariants as kinds
-use Rattle.py_lexer.specs.declared.piece.Piece.{Piece}
 use Rattle.py_lexer.specs.declared.reader.Margin.{Margin}
 use Rattle.py_lexer.specs.declared.reader.Margin.TheVariants as margins
 use Rattle.py_lexer.specs.Layout.{Place, Next, ◌>>=◌, start, refusal, longest_text, passed_to, passed, emitted, ended, next_line, with_newline, is_open_line, with_token, token_at, with_open, left_open, closed, deeper, matched, indented, top, tabbed, settled_by, settled, taken_by, taken, finished, last_line}
 use Rattle.py_lexer.specs.Pieces.{piece_of}
 use Rattle.py_lexer.specs.Slices.{Each}
 use Rattle.py_lexer.specs.Reading.{read_on, go_on, tokens_of}
-use Rattle.py_lexer.proofs.MoveLaws.{Goes, goes_on, goes_to, Stays, Moves, settled_stays, taken_moves}
+use Rattle.py_lexer.proofs.MoveLaws.{Goes, goes_on, goes_to, Stays, settled_stays, taken_moves}
 use Rattle.py_lexer.proofs.PieceLaws.{piece_some}
-use Rattle.py_lexer.proofs.PieceShapes.{Shape, Is, piece_is, Calm}
+use Rattle.py_lexer.proofs.PieceShapes.{Shape, piece_is}
 use Rattle.py_lexer.proofs.ReadingLaws.{passed_over, one_piece}
 
 -- said of places of a text, and kept by each change of a place
@@ -127,7 +125,7 @@ within_of kinds.Opener n text p q s e = s.1.0
 within_of kinds.Closer n text p q s e = s.1.0
 within_of (kinds.Refused rule) n text p q s e = absurd (never_goes rule n p q e)
 
-piece_kept : (text : List ℕ) (Inv : Place → Type 0) → Kept text Inv → (p q : Place) (c : ℕ) (cs : List ℕ) → drop p.at text ≡ c ∷ cs → p.at < length text → taken (piece_of (c ∷ cs)) p ≡ Ok q → Inv p
+pub piece_kept : (text : List ℕ) (Inv : Place → Type 0) → Kept text Inv → (p q : Place) (c : ℕ) (cs : List ℕ) → drop p.at text ≡ c ∷ cs → p.at < length text → taken (piece_of (c ∷ cs)) p ≡ Ok q → Inv p
     → Inv q × ((piece_of (c ∷ cs)).size ≤ length (c ∷ cs))
 unfolding taken
 piece_kept text Inv kept p q c cs here low e h =
@@ -141,14 +139,14 @@ pub record Ended (text : List ℕ) (Inv : Place → Type 0) (ts : List Token) : 
   pub at_end : last.at ≡ length text
   pub are : ts ≡ finished last
 
-drop_further : (at n c : ℕ) (text cs : List ℕ) → drop at text ≡ c ∷ cs → 0 < n → drop (n - 1) cs ≡ drop (at + n) text
+pub drop_further : (at n c : ℕ) (text cs : List ℕ) → drop at text ≡ c ∷ cs → 0 < n → drop (n - 1) cs ≡ drop (at + n) text
 drop_further at zero c text cs here some = absurd (omega (arith, some))
 drop_further at (suc n) c text cs here some =
     let less : suc n - 1 ≡ n = omega arith in
     let both : drop (suc n) (drop at text) ≡ drop (at + suc n) text = drop-drop (suc n) at text in
     ap (λ (k : ℕ). drop k cs) less ∙ sym (ap (λ (t : List ℕ). drop (suc n) t) here) ∙ both
 
-nothing_left : (p : Place) (ts : List Token) → read_on p 0 [] ≡ Ok ts → ts ≡ finished p
+pub nothing_left : (p : Place) (ts : List Token) → read_on p 0 [] ≡ Ok ts → ts ≡ finished p
 unfolding read_on
 nothing_left p ts e = cc
 

@@ -1,14 +1,11 @@
 -- What stands in front of a text, by its bytes.
-use Rattle.std.proofs.Common.{◌≡◌, ◌∙◌, ◌<◌, ◌≤◌, ◌+◌, ◌-◌, ◌==◌, ◌&&◌, ◌||◌, not, nat_lt, ◌⊎◌, inl, inr, ℕ, zero, suc, List, [], ◌∷◌, ◌++◌, length, take, drop, codes, Bool, true, false, Option, Some, None, option_map, refl, sym, ap, subst, arith}
+use Rattle.std.proofs.Common.{◌≡◌, ◌∙◌, ◌<◌, ◌≤◌, ◌+◌, ◌==◌, ◌&&◌, ◌||◌, ℕ, suc, List, [], ◌∷◌, length, take, Bool, true, false, refl, sym, ap, arith}
 use Rattle.std.specs.Prelude.{if◌then◌else◌}
-use Rattle.std.specs.List.{flat_map}
 use Rattle.std.specs.Str.{bytes_eq}
-use Rattle.std.proofs.lemmas.Bool.Decides.{nat_tests}
 use Rattle.std.proofs.lemmas.Slice.Eq.{bytes_eq-Decides}
-use Rattle.py_lexer.specs.Spellings.{is_of, is_quote, is_digit, is_name_start, is_name_byte, is_number_byte, front_size, name_size, number_size, is_keyword, is_int, begins, first_in_front, is_one_of, signs, sign_size, line_end_size, comment_size, is_feed}
+use Rattle.py_lexer.specs.Spellings.{front_size, begins, first_in_front, is_one_of, signs, sign_size}
 use Rattle.std.proofs.lemmas.Grind.{common_steps}
-use Rattle.py_lexer.specs.Pieces.{longest_name}
-use Rattle.py_lexer.specs.Slices.{all_pass, is_name, IsLineEnd, blank_size}
+use Rattle.py_lexer.specs.Slices.{all_pass}
 use Rattle.py_lexer.specs.Lines.{feeds}
 
 -- ---- the bytes in front that pass a test
@@ -47,10 +44,10 @@ word_begins text word h = sym ((bytes_eq-Decides word (take (length word) text))
 word_is : (word : List ℕ) → bytes_eq word word ≡ true
 word_is word = (bytes_eq-Decides word word).1 refl
 
-or_left : (a b : Bool) → a ≡ true → a || b ≡ true
+pub or_left : (a b : Bool) → a ≡ true → a || b ≡ true
 or_left a b h = rw h refl
 
-or_right : (a b : Bool) → b ≡ true → a || b ≡ true
+pub or_right : (a b : Bool) → b ≡ true → a || b ≡ true
 or_right true b h = refl
 or_right false b h = h
 

@@ -1,8 +1,8 @@
 -- A literal in front of a text is made of items.
-use Rattle.std.proofs.Common.{◌≡◌, ◌∙◌, ◌<◌, ◌≤◌, ◌+◌, ◌-◌, ◌==◌, ◌&&◌, ◌||◌, not, nat_lt, ◌⊎◌, inl, inr, ℕ, zero, suc, List, [], ◌∷◌, ◌++◌, length, take, drop, codes, Bool, true, false, Option, Some, None, option_map, refl, sym, ap, subst, arith}
+use Rattle.std.proofs.Common.{◌≡◌, ◌∙◌, ◌<◌, ◌≤◌, ◌+◌, ◌-◌, ◌==◌, ◌&&◌, ◌||◌, not, nat_lt, ℕ, zero, suc, List, [], ◌∷◌, ◌++◌, length, take, drop, Bool, true, false, Option, Some, None, option_map, refl, sym, ap, subst, arith}
+use Rattle.std.proofs.lemmas.Bool.{and_from}
 use Rattle.std.specs.Prelude.{if◌then◌else◌}
 use Rattle.std.specs.List.{flat_map}
-use Rattle.std.proofs.lemmas.Bool.Decides.{nat_tests}
 use Rattle.std.proofs.lemmas.Grind.{common_steps}
 use Rattle.std.proofs.lemmas.List.{append_assoc}
 use Rattle.py_lexer.specs.Spellings.{line_end_size, is_feed}
@@ -17,9 +17,6 @@ record Fronts (b : Bool) (q : ℕ) (text : List ℕ) (n : ℕ) : Type 0 where
   pub spells : take n text ≡ spelled item
   pub some : 0 < n
   pub within : n ≤ length text
-
-and_true : (s t : Bool) → s ≡ true → t ≡ true → s && t ≡ true
-and_true s t h j = rw (h, j) refl
 
 hex_front : (b : Bool) (q n : ℕ) (text : List ℕ) → hex_escape text ≡ Some n → Fronts b q (92 ∷ 120 ∷ text) (1 + n)
 hex_front b q n [] e = cc
@@ -85,7 +82,7 @@ item_front b q c n rest other e = by_test (nat_lt 0 (line_end_size (c ∷ rest))
     by_test false false true x g h j k is = cc
     by_test false false false x g h j k is =
         let same : 1 ≡ n = cc in
-        subst (λ (l : ℕ). Fronts b q (c ∷ rest) l) same (record { item = Byte c; stands = and_true (not (c == q)) (is_plain b c) (ap not other) (plain_byte b c (no_feed c rest g) h j); spells = refl; some = omega arith; within = omega arith })
+        subst (λ (l : ℕ). Fronts b q (c ∷ rest) l) same (record { item = Byte c; stands = and_from (not (c == q)) (is_plain b c) (ap not other) (plain_byte b c (no_feed c rest g) h j); spells = refl; some = omega arith; within = omega arith })
 
 -- the rest of a literal, of so many bytes
 pub record IsBody (b : Bool) (q : ℕ) (text : List ℕ) (n : ℕ) : Type 0 where
@@ -94,7 +91,7 @@ pub record IsBody (b : Bool) (q : ℕ) (text : List ℕ) (n : ℕ) : Type 0 wher
   pub spells : take n text ≡ body q items
   pub within : n ≤ length text
 
-take_both : (m n : ℕ) (text : List ℕ) → m ≤ length text → take (m + n) text ≡ take m text ++ take n (drop m text)
+pub take_both : (m n : ℕ) (text : List ℕ) → m ≤ length text → take (m + n) text ≡ take m text ++ take n (drop m text)
 take_both zero n text h = let e : 0 + n ≡ n = omega arith in ap (λ (k : ℕ). take k text) e
 take_both (suc m) n [] h = absurd (omega (arith, h))
 take_both (suc m) n (c ∷ cs) h = let e : suc m + n ≡ suc (m + n) = omega arith in ap (λ (k : ℕ). take k (c ∷ cs)) e ∙ ap (λ (t : List ℕ). c ∷ t) (take_both m n cs (omega (arith, h)))
@@ -106,9 +103,9 @@ size_found q b c n rest item other is e none = let nothing : literal_size q b 0 
 add_body : (b : Bool) (q c k n : ℕ) (rest : List ℕ) → Fronts b q (c ∷ rest) (suc k) → IsBody b q (drop k rest) n → IsBody b q (c ∷ rest) (suc k + n)
 add_body b q c k n rest f r = record {
   items = f.item ∷ r.items;
-  stand = and_true (may_stand b q f.item) (all_may_stand b q r.items) f.stands r.stand;
+  stand = and_from (may_stand b q f.item) (all_may_stand b q r.items) f.stands r.stand;
   spells = take_both (suc k) n (c ∷ rest) f.within ∙ ap (λ (t : List ℕ). t ++ take n (drop k rest)) f.spells ∙ ap (λ (t : List ℕ). spelled f.item ++ t) r.spells ∙ sym (append_assoc (spelled f.item) (flat_map spelled r.items) (q ∷ []));
-  within = let long : length (drop k rest) ≡ length rest - k = grind (arith, common_steps) in let front = f.within in let more = r.within in omega (arith, long, front, more)
+  within = let long : length (drop k rest) ≡ length rest - k = grind (arith, common_steps) in let front = f.within in let more = r.within in omega (arith, long, front, more);
 }
 
 -- the sizes of an item and of what follows it

@@ -1,8 +1,10 @@
 pub mod Examples
+pub mod FilledLaw
 pub mod Following
 pub mod FrontLaws
 pub mod ItemFronts
 pub mod LayoutLaws
+pub mod LineLaw
 pub mod LiteralLaws
 pub mod MatchLaw
 pub mod MoveLaws
@@ -10,6 +12,7 @@ pub mod OrderLaws
 pub mod PieceLaws
 pub mod PieceShapes
 pub mod ReadingLaws
+pub mod RefusalLaw
 pub mod SignLaws
 pub mod SizeLaws
 pub mod SpelledLaw

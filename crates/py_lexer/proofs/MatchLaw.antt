@@ -1,15 +1,15 @@
 -- Indentations match.
-use Rattle.std.proofs.Common.{◌≡◌, ◌∙◌, ◌+◌, ◌-◌, ◌<◌, ◌≤◌, ◌==◌, nat_lt, ℕ, zero, suc, List, [], ◌∷◌, ◌++◌, length, take, drop, Bool, true, false, Ok, refl, sym, ap, subst, arith}
+use Rattle.std.proofs.Common.{◌≡◌, ◌∙◌, ◌+◌, ◌<◌, ◌≤◌, nat_lt, ℕ, zero, suc, List, [], ◌∷◌, ◌++◌, length, take, drop, Bool, true, false, Ok, refl, sym, ap, subst, arith}
 use Rattle.std.specs.Prelude.{if◌then◌else◌}
 use Rattle.std.proofs.lemmas.Grind.{common_steps}
 use Rattle.py_lexer.specs.declared.token.TokenKind.{TokenKind}
 use Rattle.py_lexer.specs.declared.token.TokenKind.TheVariants as tokens
 use Rattle.py_lexer.specs.declared.token.Token.{Token}
-use Rattle.py_lexer.specs.Layout.{Place, token_at, last_line, left_open, top, is_open_line, with_token, closed, finished}
+use Rattle.py_lexer.specs.Layout.{Place, token_at, last_line, left_open, is_open_line, with_token, closed, finished}
 use Rattle.py_lexer.specs.Lines.{count, is_dedent, is_indent}
 use Rattle.py_lexer.specs.Reading.{tokens_of}
 use Rattle.py_lexer.proofs.PieceShapes.{Reads}
-use Rattle.py_lexer.proofs.Following.{Kept, Ended, follows}
+use Rattle.py_lexer.proofs.Following.{Kept, follows}
 
 count_push : (p : TokenKind → Bool) (ts : List Token) (t : Token) → count p (ts ++ t ∷ []) ≡ count p ts + (if p t.kind then 1 else 0)
 count_push p [] t = by_test (p t.kind)
@@ -88,7 +88,7 @@ matched_kept text = record {
   emits = λ p k n some s h. push_other p.tokens p.indents (token_at k p.at (p.at + n) p.line) (other k (take n (drop p.at text)) s.0) h;
   passes = λ p n some s h. h;
   ends = λ p n some s h. h;
-  ends_line = λ p n some s h. push_other p.tokens p.indents (token_at tokens.Newline p.at (p.at + n) p.line) (refl, refl) h
+  ends_line = λ p n some s h. push_other p.tokens p.indents (token_at tokens.Newline p.at (p.at + n) p.line) (refl, refl) h;
 }
 
 -- where the text ends, all are closed

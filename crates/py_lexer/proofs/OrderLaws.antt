@@ -1,5 +1,6 @@
 -- Tokens stand in order.
 use Rattle.std.proofs.Common.{◌≡◌, ◌≤◌, ◌+◌, ◌-◌, ◌==◌, ℕ, List, [], ◌∷◌, ◌++◌, Bool, true, false, nat_lt, None, Some, Ok, Err, refl, subst, sym, arith}
+use Rattle.std.proofs.Math.Nat.{le_refl}
 use Rattle.std.specs.Prelude.{if◌then◌else◌}
 use Rattle.rp_base.specs.declared.rules.Rule.TheVariants as rules
 use Rattle.py_lexer.specs.declared.token.TokenKind.{TokenKind}
@@ -26,13 +27,10 @@ one_more from (s ∷ ts) t a b h x y z = (h.0, h.1, one_more s.stop ts t a b h.2
 abbrev pub Ordered : Place → Type 0
 Ordered p = InOrder 0 p.tokens p.at
 
-same : (n : ℕ) → n ≤ n
-same n = omega arith
-
 left_ordered : (width at : ℕ) (k : TokenKind) (l : ℕ) (ws : List ℕ) (ts : List Token) → InOrder 0 ts at → InOrder 0 (left_open width (token_at k at at l) ws ts).1 at
 unfolding left_open
 left_ordered width at k l [] ts h = h
-left_ordered width at k l (w ∷ ws) ts h = by_test (nat_lt width w) (left_ordered width at k l ws (ts ++ token_at k at at l ∷ []) (one_more 0 ts (token_at k at at l) at at h (same at) (same at) (same at)))
+left_ordered width at k l (w ∷ ws) ts h = by_test (nat_lt width w) (left_ordered width at k l ws (ts ++ token_at k at at l ∷ []) (one_more 0 ts (token_at k at at l) at at h (le_refl at) (le_refl at) (le_refl at)))
   where
     by_test : (b : Bool) → InOrder 0 (left_open width (token_at k at at l) ws (ts ++ token_at k at at l ∷ [])).1 at
         → InOrder 0 (if b then left_open width (token_at k at at l) ws (ts ++ token_at k at at l ∷ []) else (w ∷ ws, ts)).1 at
@@ -46,7 +44,7 @@ newline_ordered : (from l : ℕ) (p : Place) → InOrder 0 p.tokens from → fro
 newline_ordered from l p h x = by_test (is_open_line p)
   where
     by_test : (b : Bool) → Ordered (if b then with_token (token_at tokens.Newline from p.at l) p else p)
-    by_test true = one_more 0 p.tokens (token_at tokens.Newline from p.at l) from p.at h (same from) x (same p.at)
+    by_test true = one_more 0 p.tokens (token_at tokens.Newline from p.at l) from p.at h (le_refl from) x (le_refl p.at)
     by_test false = weaker 0 p.tokens from p.at h x
 
 abbrev Further : ℕ → Place → Place → Type 0
@@ -78,7 +76,7 @@ emitted_ordered : (k : TokenKind) (n : ℕ) (p : Place) → Ordered p → Goes O
 unfolding emitted
 emitted_ordered k n p h =
     goes_on (Further n p) Ordered (passed n p) _ (passed_further n p)
-    (λ q f. one_more 0 q.tokens (token_at k p.at q.at q.line) p.at q.at (kept n p q h f) (same p.at) (later n p q f) (same q.at))
+    (λ q f. one_more 0 q.tokens (token_at k p.at q.at q.line) p.at q.at (kept n p q h f) (le_refl p.at) (later n p q f) (le_refl q.at))
 
 ended_ordered : (n : ℕ) (p : Place) → Ordered p → Goes Ordered (ended n p)
 unfolding ended
@@ -96,7 +94,7 @@ unfolding settled indented
 settled_ordered p h = by_margin p.margin
   where
     by_test : (w : ℕ) (b : Bool) → Goes Ordered (if b then Ok (deeper w p) else matched w (closed w p.line p))
-    by_test w true = one_more 0 p.tokens (token_at tokens.Indent p.at p.at p.line) p.at p.at h (same p.at) (same p.at) (same p.at)
+    by_test w true = one_more 0 p.tokens (token_at tokens.Indent p.at p.at p.line) p.at p.at h (le_refl p.at) (le_refl p.at) (le_refl p.at)
     by_test w false = matched_ordered w (closed w p.line p) (closed_ordered w p.line p h)
 
     by_margin : (m : Margin) → Goes Ordered (settled_by m p)
@@ -126,4 +124,4 @@ unfolding finished
 finished_ordered p h =
     let q = with_newline p.at (last_line p) p in
     let here : q.at ≤ p.at = omega (arith, (newline_stays p.at (last_line p) p).0) in
-    weaker 0 (closed 0 (last_line p) q).tokens q.at p.at (closed_ordered 0 (last_line p) q (newline_ordered p.at (last_line p) p h (same p.at))) here
+    weaker 0 (closed 0 (last_line p) q).tokens q.at p.at (closed_ordered 0 (last_line p) q (newline_ordered p.at (last_line p) p h (le_refl p.at))) here

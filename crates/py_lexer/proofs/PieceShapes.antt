@@ -1,10 +1,9 @@
 -- What a piece in front of a text is, in the words of the law about tokens.
-use Rattle.std.proofs.Common.{◌≡◌, ◌∙◌, ◌<◌, ◌≤◌, ◌+◌, ◌-◌, ◌==◌, ◌&&◌, ◌||◌, not, nat_lt, ◌⊎◌, inl, inr, ℕ, zero, suc, List, [], ◌∷◌, ◌++◌, length, take, drop, codes, Bool, true, false, Option, Some, None, option_map, refl, sym, ap, subst, arith}
+use Rattle.std.proofs.Common.{◌≡◌, ◌∙◌, ◌<◌, ◌≤◌, ◌+◌, ◌==◌, ◌&&◌, ◌||◌, not, nat_lt, inl, inr, ℕ, zero, suc, suc, List, [], ◌∷◌, ◌++◌, length, take, drop, codes, Bool, true, false, Option, Some, None, option_map, refl, sym, ap, subst, arith}
+use Rattle.std.proofs.lemmas.Bool.{and_from, and_parts}
 use Rattle.std.specs.Prelude.{if◌then◌else◌}
 use Rattle.std.specs.List.{flat_map}
-use Rattle.std.proofs.lemmas.Bool.Decides.{nat_tests}
 use Rattle.std.proofs.lemmas.Grind.{common_steps}
-use Rattle.rp_base.specs.declared.rules.Rule.{Rule}
 use Rattle.rp_base.specs.declared.rules.Rule.TheVariants as rules
 use Rattle.py_lexer.specs.declared.token.TokenKind.{TokenKind}
 use Rattle.py_lexer.specs.declared.token.TokenKind.TheVariants as tokens
@@ -12,13 +11,14 @@ use Rattle.py_lexer.specs.declared.piece.PieceKind.{PieceKind}
 use Rattle.py_lexer.specs.declared.piece.PieceKind.TheVariants as kinds
 use Rattle.py_lexer.specs.declared.piece.Piece.{Piece}
 use Rattle.py_lexer.specs.Spellings.{is_of, is_quote, is_digit, is_name_start, is_name_byte, is_number_byte, front_size, name_size, number_size, is_keyword, is_prefix, is_int, is_one_of, signs, sign_size, line_end_size, comment_size, is_feed}
-use Rattle.py_lexer.specs.Literals.{is_hex, is_code, is_surrogate, literal_size}
+use Rattle.py_lexer.specs.Literals.{is_hex, is_surrogate, literal_size}
 use Rattle.py_lexer.specs.Items.{Item, Byte, Mark, Hex, Code, IsLiteral, spelled, is_plain, is_mark, may_stand, all_may_stand, body, opening}
-use Rattle.py_lexer.specs.Pieces.{piece, token, refused, starts, is_bytes, sized, literal_piece, is_twice, text_piece, bytes_piece, number_piece, longest_name, word_of, word_piece, sign_of, mark_piece, piece_by, piece_of}
-use Rattle.py_lexer.specs.Slices.{all_pass, is_name, IsLineEnd, Spells, blank_size}
+use Rattle.py_lexer.specs.Pieces.{piece, token, refused, starts, is_bytes, sized, literal_piece, is_twice, text_piece, bytes_piece, number_piece, longest_name, word_piece, mark_piece, piece_of}
+use Rattle.py_lexer.specs.Slices.{all_pass, is_name, IsLineEnd, blank_size}
 use Rattle.py_lexer.specs.Lines.{feeds}
-use Rattle.py_lexer.proofs.FrontLaws.{front_within, front_passes, no_feeds, sign_is_one, sign_calm, sign_within}
-use Rattle.py_lexer.proofs.ItemFronts.{IsBody, literal_body}
+use Rattle.py_lexer.specs.Refusals.{Causes, begins_literal, begins_none}
+use Rattle.py_lexer.proofs.FrontLaws.{or_left, or_right, front_within, front_passes, no_feeds, sign_is_one, sign_calm, sign_within}
+use Rattle.py_lexer.proofs.ItemFronts.{literal_body}
 
 -- a token that a piece makes
 abbrev pub Reads : TokenKind → List ℕ → Type 0
@@ -44,7 +44,7 @@ Shape kinds.LineEnd n text = (blank_size text ≡ n) × ((n ≤ length text) × 
 Shape (kinds.Token k) n text = Reads k (take n text) × Calm n text
 Shape kinds.Opener n text = Reads tokens.Sign (take n text) × Calm n text
 Shape kinds.Closer n text = Reads tokens.Sign (take n text) × Calm n text
-Shape (kinds.Refused rule) n text = Unit {0}
+Shape (kinds.Refused rule) n text = Causes rule text
 
 abbrev pub Is : List ℕ → Piece → Type 0
 Is text x = Shape x.kind x.size text
@@ -111,7 +111,7 @@ closer_is c cs h = by_sign (c == 41) (c == 93) (c == 125) refl refl refl h
 
 -- ---- literals
 
-feeds_both : (xs ys : List ℕ) → feeds (xs ++ ys) ≡ feeds xs + feeds ys
+pub feeds_both : (xs ys : List ℕ) → feeds (xs ++ ys) ≡ feeds xs + feeds ys
 feeds_both [] ys = omega arith
 feeds_both (c ∷ cs) ys = by_test (c == 10) (feeds_both cs ys)
   where
@@ -126,24 +126,20 @@ other_than_feed p c low h = by_test (c == 10) refl
     by_test true e = let same : c ≡ 10 = grind arith in let passes : p 10 ≡ true = sym (ap p same) ∙ h in cc
     by_test false e = refl
 
-and_parts_of : (s t : Bool) → s && t ≡ true → (s ≡ true) × (t ≡ true)
-and_parts_of true t h = (refl, h)
-and_parts_of false t h = cc
-
 item_calm : (b : Bool) (q : ℕ) (i : Item) → may_stand b q i ≡ true → feeds (spelled i) ≡ 0
-item_calm b q (Byte c) h = let plain = and_parts_of (not (c == q)) (is_plain b c) h in let low : (c == 10) ≡ false = other_than_feed (is_plain b) c refl plain.1 in rw low refl
+item_calm b q (Byte c) h = let plain = and_parts (not (c == q)) (is_plain b c) h in let low : (c == 10) ≡ false = other_than_feed (is_plain b) c refl plain.1 in rw low refl
 item_calm b q (Mark c) h = let low : (c == 10) ≡ false = other_than_feed is_mark c refl h in rw low refl
 item_calm b q (Hex x y) h =
-    let parts = and_parts_of (is_hex x) (is_hex y) h in
+    let parts = and_parts (is_hex x) (is_hex y) h in
     let first : (x == 10) ≡ false = other_than_feed is_hex x refl parts.0 in
     let second : (y == 10) ≡ false = other_than_feed is_hex y refl parts.1 in
     rw (first, second) refl
 item_calm true q (Code x y z w) h = cc
 item_calm false q (Code x y z w) h =
-    let all = and_parts_of (is_hex x && is_hex y && is_hex z && is_hex w) (not (is_surrogate x y)) h in
-    let three = and_parts_of (is_hex x && is_hex y && is_hex z) (is_hex w) all.0 in
-    let two = and_parts_of (is_hex x && is_hex y) (is_hex z) three.0 in
-    let one = and_parts_of (is_hex x) (is_hex y) two.0 in
+    let all = and_parts (is_hex x && is_hex y && is_hex z && is_hex w) (not (is_surrogate x y)) h in
+    let three = and_parts (is_hex x && is_hex y && is_hex z) (is_hex w) all.0 in
+    let two = and_parts (is_hex x && is_hex y) (is_hex z) three.0 in
+    let one = and_parts (is_hex x) (is_hex y) two.0 in
     let first : (x == 10) ≡ false = other_than_feed is_hex x refl one.0 in
     let second : (y == 10) ≡ false = other_than_feed is_hex y refl one.1 in
     let third : (z == 10) ≡ false = other_than_feed is_hex z refl two.1 in
@@ -153,7 +149,7 @@ item_calm false q (Code x y z w) h =
 items_calm : (b : Bool) (q : ℕ) (items : List Item) → all_may_stand b q items ≡ true → feeds (flat_map spelled items) ≡ 0
 items_calm b q [] h = refl
 items_calm b q (i ∷ is) h =
-    let parts = and_parts_of (may_stand b q i) (all_may_stand b q is) h in
+    let parts = and_parts (may_stand b q i) (all_may_stand b q is) h in
     let first = item_calm b q i parts.0 in
     let more = items_calm b q is parts.1 in
     let both = feeds_both (spelled i) (flat_map spelled is) in
@@ -168,6 +164,26 @@ body_calm b q items h s =
     let last = quote_calm q h in
     let both = feeds_both (flat_map spelled items) (q ∷ []) in
     omega (arith, first, last, both)
+
+-- what begins a literal
+by_quote : (c : ℕ) (cs : List ℕ) → is_quote c ≡ true → begins_literal (c ∷ cs) ≡ true
+by_quote c cs h = rw h refl
+
+by_digit : (c : ℕ) (cs : List ℕ) → is_digit c ≡ true → begins_literal (c ∷ cs) ≡ true
+by_digit c cs h = or_left _ _ (or_left _ _ (or_left _ _ (or_right (is_quote c) (is_digit c) h)))
+
+by_point : (c : ℕ) (cs : List ℕ) → (c == 46) && starts is_digit cs ≡ true → begins_literal (c ∷ cs) ≡ true
+by_point c cs h = or_left _ _ (or_left _ _ (or_right (is_quote c || is_digit c) ((c == 46) && starts is_digit cs) h))
+
+by_b : (c : ℕ) (cs : List ℕ) → (c == 98) && starts is_quote cs ≡ true → begins_literal (c ∷ cs) ≡ true
+by_b c cs h = or_left _ _ (or_right (is_quote c || is_digit c || ((c == 46) && starts is_digit cs)) ((c == 98) && starts is_quote cs) h)
+
+by_prefix : (c : ℕ) (cs : List ℕ) → starts is_quote (drop (name_size (c ∷ cs)) (c ∷ cs)) && is_prefix (take (name_size (c ∷ cs)) (c ∷ cs)) ≡ true → begins_literal (c ∷ cs) ≡ true
+by_prefix c cs h = or_right (is_quote c || is_digit c || ((c == 46) && starts is_digit cs) || ((c == 98) && starts is_quote cs)) (starts is_quote (drop (name_size (c ∷ cs)) (c ∷ cs)) && is_prefix (take (name_size (c ∷ cs)) (c ∷ cs))) h
+
+by_opening : (b : Bool) (q : ℕ) (rest : List ℕ) → is_quote q ≡ true → begins_literal (opening b q ++ rest) ≡ true
+by_opening true q rest h = by_b 98 (q ∷ rest) h
+by_opening false q rest h = by_quote q rest h
 
 -- a literal behind its opening
 literal_is : (b : Bool) (k : TokenKind) (q n : ℕ) (rest : List ℕ) → is_quote q ≡ true → is_bytes k ≡ b → ((s : List ℕ) → IsLiteral b s → Reads k s) → literal_size q b 0 rest ≡ Some n
@@ -193,19 +209,19 @@ literal_is b k q n rest h kind reads e =
 
 sized_is : (b : Bool) (k : TokenKind) (q : ℕ) (rest : List ℕ) (x : Option ℕ) → is_quote q ≡ true → is_bytes k ≡ b → ((s : List ℕ) → IsLiteral b s → Reads k s) → literal_size q b 0 rest ≡ x
     → Is (opening b q ++ rest) (sized k (option_map (λ n. length (opening b q) + n) x))
-sized_is b k q rest None h kind reads e = tt
+sized_is b k q rest None h kind reads e = by_opening b q rest h
 sized_is b k q rest (Some n) h kind reads e = literal_is b k q n rest h kind reads e
 
 text_is : (c : ℕ) (cs : List ℕ) → is_quote c ≡ true → Is (c ∷ cs) (text_piece (c ∷ cs))
 unfolding text_piece
-text_is c cs h = either (c ∷ cs) (is_twice c cs) (refused rules.L4) (literal_piece tokens.Text c 1 (c ∷ cs)) (λ _. tt) (λ _. sized_is false tokens.Text c cs (literal_size c false 0 cs) h refl (λ s l. l) refl)
+text_is c cs h = either (c ∷ cs) (is_twice c cs) (refused rules.L4) (literal_piece tokens.Text c 1 (c ∷ cs)) (λ _. by_quote c cs h) (λ _. sized_is false tokens.Text c cs (literal_size c false 0 cs) h refl (λ s l. l) refl)
 
 bytes_is : (c d : ℕ) (cs : List ℕ) → (c == 98) ≡ true → is_quote d ≡ true → Is (c ∷ d ∷ cs) (bytes_piece (c ∷ d ∷ cs))
 unfolding bytes_piece
 bytes_is c d cs b h =
     let same : 98 ≡ c = grind arith in
     subst (λ (k : ℕ). Is (k ∷ d ∷ cs) (bytes_piece (k ∷ d ∷ cs))) same
-    (either (98 ∷ d ∷ cs) (is_twice d cs) (refused rules.L4) (literal_piece tokens.Bytes d 2 (98 ∷ d ∷ cs)) (λ _. tt) (λ _. sized_is true tokens.Bytes d cs (literal_size d true 0 cs) h refl (λ s l. l) refl))
+    (either (98 ∷ d ∷ cs) (is_twice d cs) (refused rules.L4) (literal_piece tokens.Bytes d 2 (98 ∷ d ∷ cs)) (λ _. by_opening true d cs h) (λ _. sized_is true tokens.Bytes d cs (literal_size d true 0 cs) h refl (λ s l. l) refl))
 
 bytes_in_front : (c : ℕ) (cs : List ℕ) → ((c == 98) && starts is_quote cs) ≡ true → Is (c ∷ cs) (bytes_piece (c ∷ cs))
 bytes_in_front c [] h = absurd (no_start (c == 98) h)
@@ -213,15 +229,16 @@ bytes_in_front c [] h = absurd (no_start (c == 98) h)
     no_start : (b : Bool) → b && false ≡ true → ⊥
     no_start true e = cc
     no_start false e = cc
-bytes_in_front c (d ∷ cs) h = let parts = and_parts_of (c == 98) (is_quote d) h in bytes_is c d cs parts.0 parts.1
+bytes_in_front c (d ∷ cs) h = let parts = and_parts (c == 98) (is_quote d) h in bytes_is c d cs parts.0 parts.1
 
 -- ---- numbers, names and signs
 
-number_is : (text : List ℕ) → Is text (number_piece text)
+number_is : (c : ℕ) (cs : List ℕ) → is_digit c ≡ true → Is (c ∷ cs) (number_piece (c ∷ cs))
 unfolding number_piece
-number_is text =
+number_is c cs digit =
+    let text = c ∷ cs in
     either text (is_int (take (number_size text) text)) (token tokens.Int (number_size text)) (refused rules.L4)
-    (λ h. (h, (front_within is_number_byte text, no_feeds is_number_byte (take (number_size text) text) refl (front_passes is_number_byte text)))) (λ _. tt)
+    (λ h. (h, (front_within is_number_byte text, no_feeds is_number_byte (take (number_size text) text) refl (front_passes is_number_byte text)))) (λ _. by_digit c cs digit)
 
 name_is : (c : ℕ) (cs : List ℕ) → is_name_start c ≡ true → nat_lt longest_name (name_size (c ∷ cs)) ≡ false → is_keyword (take (name_size (c ∷ cs)) (c ∷ cs)) ≡ false → is_name (take (name_size (c ∷ cs)) (c ∷ cs)) ≡ true
 name_is c cs h short plain =
@@ -248,8 +265,8 @@ word_is c cs h =
     let text = c ∷ cs in
     let n = name_size (c ∷ cs) in
     let calm : Calm (name_size (c ∷ cs)) (c ∷ cs) = (front_within is_name_byte (c ∷ cs), no_feeds is_name_byte (take (name_size (c ∷ cs)) (c ∷ cs)) refl (front_passes is_name_byte (c ∷ cs))) in
-    either text (nat_lt longest_name n) _ _ (λ _. tt)
-    (λ short. either text (starts is_quote (drop n text) && is_prefix (take n text)) _ _ (λ _. tt) (λ _. either text (is_keyword (take n text)) (token tokens.Keyword n) (token tokens.Name n) (λ key. (key, calm)) (λ plain. (name_is c cs h short plain, calm))))
+    either text (nat_lt longest_name n) _ _ (λ long. and_from (is_name_start c) (nat_lt longest_name n) h long)
+    (λ short. either text (starts is_quote (drop n text) && is_prefix (take n text)) _ _ (λ before. by_prefix c cs before) (λ _. either text (is_keyword (take n text)) (token tokens.Keyword n) (token tokens.Name n) (λ key. (key, calm)) (λ plain. (name_is c cs h short plain, calm))))
 
 sign_is : (text : List ℕ) → 0 < sign_size text → sign_size text ≤ length text → Is text (token tokens.Sign (sign_size text))
 sign_is text some within = let one = sign_is_one text some in (one, (within, sign_calm (take (sign_size text) text) one))
@@ -268,11 +285,25 @@ line_end_is c cs h space tab hash = (rw (space, tab, hash) refl, ends (c == 10) 
         by_feed true z some = let first : c ≡ 13 = grind arith in let second : d ≡ 10 = grind arith in (omega arith, inr (ap (λ (k : ℕ). k ∷ d ∷ []) first ∙ ap (λ (k : ℕ). 13 ∷ k ∷ []) second))
         by_feed false z some = cc
 
-mark_is : (c : ℕ) (cs : List ℕ) → (c == 32) ≡ false → (c == 9) ≡ false → (c == 35) ≡ false → Is (c ∷ cs) (mark_piece (c ∷ cs))
+none_begins : (c : ℕ) (cs : List ℕ) → (c == 32) ≡ false → (c == 9) ≡ false → (c == 35) ≡ false → is_quote c ≡ false → is_digit c ≡ false → is_name_start c ≡ false
+    → nat_lt 0 (line_end_size (c ∷ cs)) ≡ false → nat_lt 0 (sign_size (c ∷ cs)) ≡ false → begins_none (c ∷ cs) ≡ true
+none_begins c cs space tab hash quote digit name no_end no_sign =
+    let blank : is_of (32 ∷ 9 ∷ 35 ∷ []) c ≡ false = rw (space, tab, hash) refl in
+    all_six (is_of (32 ∷ 9 ∷ 35 ∷ []) c) (is_quote c) (is_digit c) (is_name_start c) (line_end_size (c ∷ cs) == 0) (sign_size (c ∷ cs) == 0) blank quote digit name (zero_of (line_end_size (c ∷ cs)) no_end) (zero_of (sign_size (c ∷ cs)) no_sign)
+  where
+    zero_of : (n : ℕ) → nat_lt 0 n ≡ false → (n == 0) ≡ true
+    zero_of zero h = refl
+    zero_of (suc n) h = absurd (let low : suc n ≤ 0 = grind arith in omega (arith, low))
+
+    all_six : (a b d e f g : Bool) → a ≡ false → b ≡ false → d ≡ false → e ≡ false → f ≡ true → g ≡ true → not a && not b && not d && not e && f && g ≡ true
+    all_six a b d e f g h i j k l m = rw (h, i, j, k, l, m) refl
+
+mark_is : (c : ℕ) (cs : List ℕ) → (c == 32) ≡ false → (c == 9) ≡ false → (c == 35) ≡ false → is_quote c ≡ false → is_digit c ≡ false → is_name_start c ≡ false → Is (c ∷ cs) (mark_piece (c ∷ cs))
 unfolding mark_piece
-mark_is c cs space tab hash =
+mark_is c cs space tab hash quote digit name =
     either (c ∷ cs) (nat_lt 0 (line_end_size (c ∷ cs))) _ _ (λ h. line_end_is c cs h space tab hash)
-    (λ _. either (c ∷ cs) (nat_lt 0 (sign_size (c ∷ cs))) _ _ (λ h. let some : 0 < sign_size (c ∷ cs) = grind arith in sign_is (c ∷ cs) some (sign_within (c ∷ cs))) (λ _. tt))
+    (λ no_end. either (c ∷ cs) (nat_lt 0 (sign_size (c ∷ cs))) _ _ (λ h. let some : 0 < sign_size (c ∷ cs) = grind arith in sign_is (c ∷ cs) some (sign_within (c ∷ cs)))
+    (λ no_sign. none_begins c cs space tab hash quote digit name no_end no_sign))
 
 pub piece_is : (c : ℕ) (cs : List ℕ) → Is (c ∷ cs) (piece_of (c ∷ cs))
 unfolding piece_of
@@ -284,7 +315,7 @@ piece_is c cs =
     (λ hash. either text (is_of (codes "([{") c) _ _ (λ h. opener_is c cs h)
     (λ _. either text (is_of (codes ")]}") c) _ _ (λ h. closer_is c cs h)
     (λ _. either text (is_quote c) _ _ (λ h. text_is c cs h)
-    (λ _. either text ((c == 98) && starts is_quote cs) _ _ (λ h. bytes_in_front c cs h)
-    (λ _. either text ((c == 46) && starts is_digit cs) _ _ (λ _. tt)
-    (λ _. either text (is_digit c) _ _ (λ _. number_is text)
-    (λ _. either text (is_name_start c) _ _ (λ h. word_is c cs h) (λ _. mark_is c cs space tab hash))))))))))
+    (λ quote. either text ((c == 98) && starts is_quote cs) _ _ (λ h. bytes_in_front c cs h)
+    (λ _. either text ((c == 46) && starts is_digit cs) _ _ (λ h. by_point c cs h)
+    (λ _. either text (is_digit c) _ _ (λ h. number_is c cs h)
+    (λ digit. either text (is_name_start c) _ _ (λ h. word_is c cs h) (λ name. mark_is c cs space tab hash quote digit name))))))))))

@@ -1,5 +1,6 @@
 -- The sign in front is the longest.
 use Rattle.std.proofs.Common.{◌≡◌, ◌≤◌, ◌∙◌, ℕ, List, [], ◌∷◌, length, Bool, true, false, not, nat_lt, ◌&&◌, ◌||◌, ◌⊎◌, inl, inr, refl, sym, ap, arith}
+use Rattle.std.proofs.lemmas.Bool.{and_parts}
 use Rattle.std.specs.Prelude.{if◌then◌else◌, IsTrue}
 use Rattle.std.specs.Str.{bytes_eq}
 use Rattle.std.proofs.lemmas.Slice.Eq.{bytes_eq-Decides}
@@ -17,11 +18,6 @@ are_falling (word ∷ words) = all_within (length word) words && are_falling wor
 same_word : (s word : List ℕ) → bytes_eq s word ≡ true → s ≡ word
 same_word s word e = (bytes_eq-Decides s word).0 e
 
-both : (b c : Bool) → b && c ≡ true → (b ≡ true) × (c ≡ true)
-both true true e = (refl, refl)
-both true false e = cc
-both false c e = cc
-
 -- one of the words: the first, or one of the others
 is_first_or_later : (a b : Bool) → a || b ≡ true → (a ≡ true) ⊎ (b ≡ true)
 is_first_or_later true b e = inl refl
@@ -30,7 +26,7 @@ is_first_or_later false b e = inr e
 within_of : (n : ℕ) (words : List (List ℕ)) (s : List ℕ) → all_within n words ≡ true → is_one_of words s ≡ true → length s ≤ n
 within_of n [] s h e = cc
 within_of n (word ∷ words) s h e =
-    let split = both (not (nat_lt n (length word))) (all_within n words) h in
+    let split = and_parts (not (nat_lt n (length word))) (all_within n words) h in
     by_place (is_first_or_later (bytes_eq s word) (is_one_of words s) e) split.0 (λ o. within_of n words s split.1 o)
   where
     by_place : (bytes_eq s word ≡ true) ⊎ (is_one_of words s ≡ true) → not (nat_lt n (length word)) ≡ true → (is_one_of words s ≡ true → length s ≤ n) → length s ≤ n
@@ -43,7 +39,7 @@ apart e = cc
 pub longest_in_front : (words : List (List ℕ)) (text s : List ℕ) → are_falling words ≡ true → is_one_of words s ≡ true → begins text s ≡ true → length s ≤ first_in_front words text
 longest_in_front [] text s f e b = cc
 longest_in_front (word ∷ words) text s f e b =
-    let split = both (all_within (length word) words) (are_falling words) f in
+    let split = and_parts (all_within (length word) words) (are_falling words) f in
     by_front (begins text word) refl (is_first_or_later (bytes_eq s word) (is_one_of words s) e) (λ o. within_of (length word) words s split.0 o) (λ o. longest_in_front words text s split.1 o b)
   where
     by_front : (here : Bool) → begins text word ≡ here → (bytes_eq s word ≡ true) ⊎ (is_one_of words s ≡ true) → (is_one_of words s ≡ true → length s ≤ length word) → (is_one_of words s ≡ true → length s ≤ first_in_front words text)

@@ -1,14 +1,14 @@
 -- Each token is spelled as its kind says.
-use Rattle.std.proofs.Common.{◌≡◌, ◌∙◌, ◌+◌, ◌-◌, ◌≤◌, ℕ, List, [], ◌∷◌, length, take, drop, Ok, inl, inr, refl, sym, ap, subst, arith}
+use Rattle.std.proofs.Common.{◌≡◌, ◌+◌, ◌-◌, ℕ, List, [], length, take, drop, Ok, inl, inr, sym, ap, subst, arith}
 use Rattle.std.proofs.lemmas.Grind.{common_steps}
 use Rattle.py_lexer.specs.declared.token.TokenKind.{TokenKind}
 use Rattle.py_lexer.specs.declared.token.TokenKind.TheVariants as tokens
 use Rattle.py_lexer.specs.declared.token.Token.{Token}
-use Rattle.py_lexer.specs.Layout.{Place, token_at, last_line}
+use Rattle.py_lexer.specs.Layout.{Place, token_at}
 use Rattle.py_lexer.specs.Reading.{tokens_of}
 use Rattle.py_lexer.specs.Slices.{IsSpelled, Spells, Each}
 use Rattle.py_lexer.proofs.PieceShapes.{Reads}
-use Rattle.py_lexer.proofs.Following.{Kept, Ended, follows, each_push, finished_each}
+use Rattle.py_lexer.proofs.Following.{Kept, follows, each_push, finished_each}
 
 reads_spells : (k : TokenKind) (s after : List ℕ) → Reads k s → Spells k s after
 reads_spells tokens.Name s after h = h
@@ -41,7 +41,7 @@ spelled_kept text = record {
   emits = λ p k n some s h. each_push (IsSpelled text) p.tokens (token_at k p.at (p.at + n) p.line) h (token_spelled text k p.at n p.line (reads_spells k (take n (drop p.at text)) (drop (p.at + n) text) s.0));
   passes = λ p n some s h. h;
   ends = λ p n some s h. h;
-  ends_line = λ p n some s h. each_push (IsSpelled text) p.tokens (token_at tokens.Newline p.at (p.at + n) p.line) h (token_spelled text tokens.Newline p.at n p.line (inl s.1.1))
+  ends_line = λ p n some s h. each_push (IsSpelled text) p.tokens (token_at tokens.Newline p.at (p.at + n) p.line) h (token_spelled text tokens.Newline p.at n p.line (inl s.1.1));
 }
 
 pub all_spelled : (text : List ℕ) (ts : List Token) → tokens_of text ≡ Ok ts → Each (IsSpelled text) ts

@@ -6,5 +6,6 @@ pub mod Literals
 pub mod Order
 pub mod Pieces
 pub mod Reading
+pub mod Refusals
 pub mod Slices
 pub mod Spellings

@@ -1,7 +1,9 @@
-ghost use Rattle.std.specs.Prelude.{◌≡◌, ◌≤◌, ◌<◌, List, ℕ, IsTrue, Ok, length, take};
+ghost use Rattle.std.specs.Prelude.{◌≡◌, ◌≤◌, ◌<◌, List, ℕ, IsTrue, Ok, Err, length, take};
+ghost use Rattle.rp_base.specs.declared.rules.Refused.{Refused};
 ghost use Rattle.py_lexer.specs.declared.token.Token.{Token};
 ghost use Rattle.py_lexer.specs.Lines.{IsOnLine, count, is_dedent, is_indent};
 ghost use Rattle.py_lexer.specs.Reading.{tokens_of};
+ghost use Rattle.py_lexer.specs.Refusals.{IsRefusedAt};
 ghost use Rattle.py_lexer.specs.Slices.{Each, Filled, IsSpelled};
 ghost use Rattle.py_lexer.specs.Spellings.{begins, is_one_of, signs, sign_size};
 
@@ -34,4 +36,10 @@ pub fn tokens_have_their_lines()
 /// Nothing but spaces, tabs, comments and line ends stands before, between and behind the tokens.
 pub fn blanks_stand_between_tokens()
     ensures { (text : List ℕ) (ts : List Token) → tokens_of text ≡ Ok ts → Filled text 0 ts (length text) }
+{}
+
+/// A text is refused at a place in it, on the line of that place, and what stands there is the cause: a character that
+/// begins nothing (L3), the begin of a number or a string (L4), or a name that is too long (L5).
+pub fn refusals_have_their_places()
+    ensures { (text : List ℕ) (r : Refused) → tokens_of text ≡ Err r → (at : ℕ) × IsRefusedAt text r at }
 {}

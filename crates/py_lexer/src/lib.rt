@@ -13,8 +13,8 @@ mod tests;
 mod token;
 
 pub use laws::{
-    blanks_stand_between_tokens, indentations_match, the_longest_sign_is_read, tokens_are_spelled,
-    tokens_have_their_lines, what_is_read_is_a_sign,
+    blanks_stand_between_tokens, indentations_match, refusals_have_their_places,
+    the_longest_sign_is_read, tokens_are_spelled, tokens_have_their_lines, what_is_read_is_a_sign,
 };
 pub use lexing::tokens;
 pub use token::{LexEnd, Token, TokenKind};

@@ -45,7 +45,36 @@ fn literals_and_signs(rt: HostRuntime) -> Result<(), Fail> {
         token(TokenKind::Newline, 27, 27, 1),
     ];
     assert_eq!(rt; found.as_slice(), expected.as_slice());
+    let escapes = "'\\n\\t\\r\\\\\\'\\\"\\x7f\\uFFFF'b'\\n\\t\\r\\\\\\'\\\"\\x7f'";
+    let found = tokens(rt.alloc(), escapes)?;
+    let expected = [
+        token(TokenKind::Text, 0, 24, 1),
+        token(TokenKind::Bytes, 24, 43, 1),
+        token(TokenKind::Newline, 43, 43, 1),
+    ];
+    assert_eq!(rt; found.as_slice(), expected.as_slice());
     assert!(rt; tokens(rt.alloc(), "")?.is_empty() && tokens(rt.alloc(), " \t# x\n")?.is_empty());
+    Ok(())
+}
+
+#[test]
+fn long_names_and_two_dedents(rt: HostRuntime) -> Result<(), Fail> {
+    let name = "abcdefghijklmnopqrstuvwxyz_ABCDEFGHIJKLMNOPQRSTUVWXYZ_0123456789";
+    let found = tokens(rt.alloc(), name)?;
+    let expected = [
+        token(TokenKind::Name, 0, 64, 1),
+        token(TokenKind::Newline, 64, 64, 1),
+    ];
+    assert_eq!(rt; found.as_slice(), expected.as_slice());
+    let found = tokens(rt.alloc(), "if a:\n if b:\n  c\nd")?;
+    let expected = [
+        token(TokenKind::Dedent, 17, 17, 4),
+        token(TokenKind::Dedent, 17, 17, 4),
+        token(TokenKind::Name, 17, 18, 4),
+        token(TokenKind::Newline, 18, 18, 4),
+    ];
+    assert!(rt; found.len() == 16);
+    assert_eq!(rt; &found[12..], expected.as_slice());
     Ok(())
 }
 

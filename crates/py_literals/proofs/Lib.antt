@@ -3,5 +3,6 @@ pub mod Examples
 pub mod IntLaws
 pub mod ItemLaws
 pub mod ReadLaws
+pub mod TokenLaw
 pub mod Utf8
 pub mod WholeLaws

@@ -1,5 +1,6 @@
 -- What is read is a literal, and a literal is read.
 use Rattle.std.proofs.Common.{◌≡◌, ◌∙◌, ◌-◌, ◌==◌, ◌&&◌, ◌||◌, not, nat_lt, ℕ, zero, suc, List, [], ◌∷◌, ◌++◌, length, drop, Bool, true, false, Option, Some, None, option_map, refl, sym, ap, subst, arith}
+use Rattle.std.proofs.lemmas.Bool.{and_from, and_parts}
 use Rattle.std.specs.Prelude.{if◌then◌else◌}
 use Rattle.std.specs.List.{flat_map}
 use Rattle.std.proofs.lemmas.List.{append_assoc}
@@ -56,9 +57,6 @@ item_front b q i c rest other e = by_test (c == 92) (is_plain b c) refl refl e
     by_test false true h j is = let same : Byte c ≡ i = cc in subst (Fronts b q (c ∷ rest)) same (record { stands = rw (other, j) refl; spells = refl })
     by_test false false h j is = cc
 
-and_true : (s t : Bool) → s ≡ true → t ≡ true → s && t ≡ true
-and_true s t h j = rw (h, j) refl
-
 -- the items that are read spell what is read
 pub items_spell : (b : Bool) (q k : ℕ) (rest : List ℕ) (items : List Item) → items_of b q k rest ≡ Some items → (all_may_stand b q items ≡ true) × (drop k rest ≡ body q items)
 unfolding items_of
@@ -85,7 +83,7 @@ items_spell b q zero (c ∷ rest) items e = by_test (c == q) (item_of b (c ∷ r
         let whole = further (length (spelled i) - 1) more k in
         let same : i ∷ more ≡ items = cc in
         subst (λ (l : List Item). (all_may_stand b q l ≡ true) × (c ∷ rest ≡ body q l)) same (
-          and_true (may_stand b q i) (all_may_stand b q more) front.stands whole.0,
+          and_from (may_stand b q i) (all_may_stand b q more) front.stands whole.0,
           front.spells ∙ ap (λ (t : List ℕ). spelled i ++ t) whole.1 ∙ sym (append_assoc (spelled i) (flat_map spelled more) (q ∷ [])),
         )
 
@@ -119,17 +117,13 @@ escaped : (b : Bool) (r : List ℕ) → item_of b (92 ∷ r) ≡ escape_item b r
 unfolding item_of
 escaped b r = refl
 
-and_parts_of : (s t : Bool) → s && t ≡ true → (s ≡ true) × (t ≡ true)
-and_parts_of true t h = (refl, h)
-and_parts_of false t h = cc
-
 no_backslash : (s t u : Bool) → not s && not t && u ≡ true → t ≡ false
 no_backslash true t u h = cc
 no_backslash false true u h = cc
 no_backslash false false u h = refl
 
 item_reads : (b : Bool) (q : ℕ) (i : Item) (r : List ℕ) → may_stand b q i ≡ true → item_of b (spelled i ++ r) ≡ Some i
-item_reads b q (Byte c) r h = let parts = and_parts_of (not (c == q)) (is_plain b c) h in byte_reads b c r (no_backslash (c == 10) (c == 92) (nat_lt c 128 || not b) parts.1) parts.1
+item_reads b q (Byte c) r h = let parts = and_parts (not (c == q)) (is_plain b c) h in byte_reads b c r (no_backslash (c == 10) (c == 92) (nat_lt c 128 || not b) parts.1) parts.1
 item_reads b q (Mark c) r h = escaped b (c ∷ r) ∙ escape_reads b c r h
 item_reads b q (Hex x y) r h = escaped b (120 ∷ x ∷ y ∷ r) ∙ hex_reads b x y r h
 item_reads true q (Code x y z w) r h = cc
@@ -151,14 +145,14 @@ same_quote q = grind arith
 pub items_read : (b : Bool) (q : ℕ) (items : List Item) → is_quote q ≡ true → all_may_stand b q items ≡ true → items_of b q 0 (body q items) ≡ Some items
 items_read b q [] h s = quoted b q q [] (same_quote q)
 items_read b q (Byte c ∷ is) h s =
-    let parts = and_parts_of (may_stand b q (Byte c)) (all_may_stand b q is) s in
+    let parts = and_parts (may_stand b q (Byte c)) (all_may_stand b q is) s in
     one_item b q c (body q is) (Byte c) 0 (not_quote c q (is_plain b c) parts.0) (item_reads b q (Byte c) (body q is) parts.0) refl ∙ ap (option_map (λ l. Byte c ∷ l)) (items_read b q is h parts.1)
 items_read b q (Mark c ∷ is) h s =
-    let parts = and_parts_of (may_stand b q (Mark c)) (all_may_stand b q is) s in
+    let parts = and_parts (may_stand b q (Mark c)) (all_may_stand b q is) s in
     one_item b q 92 (c ∷ body q is) (Mark c) 1 (no_quote q h) (item_reads b q (Mark c) (body q is) parts.0) refl ∙ ap (option_map (λ l. Mark c ∷ l)) (items_read b q is h parts.1)
 items_read b q (Hex x y ∷ is) h s =
-    let parts = and_parts_of (may_stand b q (Hex x y)) (all_may_stand b q is) s in
+    let parts = and_parts (may_stand b q (Hex x y)) (all_may_stand b q is) s in
     one_item b q 92 (120 ∷ x ∷ y ∷ body q is) (Hex x y) 3 (no_quote q h) (item_reads b q (Hex x y) (body q is) parts.0) refl ∙ ap (option_map (λ l. Hex x y ∷ l)) (items_read b q is h parts.1)
 items_read b q (Code x y z w ∷ is) h s =
-    let parts = and_parts_of (may_stand b q (Code x y z w)) (all_may_stand b q is) s in
+    let parts = and_parts (may_stand b q (Code x y z w)) (all_may_stand b q is) s in
     one_item b q 92 (117 ∷ x ∷ y ∷ z ∷ w ∷ body q is) (Code x y z w) 5 (no_quote q h) (item_reads b q (Code x y z w) (body q is) parts.0) refl ∙ ap (option_map (λ l. Code x y z w ∷ l)) (items_read b q is h parts.1)

@@ -1,5 +1,6 @@
 -- The text that a literal stands for is UTF-8, as the literal is.
-use Rattle.std.proofs.Common.{◌≡◌, ◌<◌, ◌+◌, ◌&&◌, ℕ, List, [], ◌∷◌, ◌++◌, length, get_or, Bool, true, false, Option, Some, None, option_map, encode_utf8, append-nil, refl, sym, subst, arith}
+use Rattle.std.proofs.Common.{◌≡◌, ◌<◌, ◌+◌, ℕ, List, [], ◌∷◌, ◌++◌, length, get_or, Bool, true, false, Option, Some, None, option_map, encode_utf8, append-nil, refl, sym, subst, arith}
+use Rattle.std.proofs.lemmas.Bool.{and_parts}
 use Rattle.std.specs.Prelude.{if◌then◌else◌}
 use Rattle.std.specs.Str.{IsUtf8}
 use Rattle.std.specs.Char.{IsScalar}
@@ -50,29 +51,25 @@ two_low a b = let x = counts_below a in let y = counts_below b in low_scalar (he
 all_three : (front here rest : List ℕ) → IsUtf8 front → IsUtf8 here → IsUtf8 rest → IsUtf8 (front ++ (here ++ rest))
 all_three front here rest u v w = IsUtf8-append front (here ++ rest) u (IsUtf8-append here rest v w)
 
-and_parts_of : (s t : Bool) → s && t ≡ true → (s ≡ true) × (t ≡ true)
-and_parts_of true t h = (refl, h)
-and_parts_of false t h = cc
-
 -- behind a front that may end within a character
 pub items_utf8 : (q : ℕ) (items : List Item) (front : List ℕ) → q < 128 → all_may_stand false q items ≡ true → IsUtf8 (front ++ body q items) → IsUtf8 (front ++ all_stand_for false items)
 items_utf8 q [] front low s u = subst IsUtf8 (sym (append-nil front)) (cut front [] q low u).0
 items_utf8 q (Byte c ∷ is) front low s u =
-    let parts = and_parts_of (may_stand false q (Byte c)) (all_may_stand false q is) s in
+    let parts = and_parts (may_stand false q (Byte c)) (all_may_stand false q is) s in
     subst IsUtf8 (append_assoc front (c ∷ []) (all_stand_for false is)) (items_utf8 q is (front ++ c ∷ []) low parts.1 (subst IsUtf8 (sym (append_assoc front (c ∷ []) (body q is))) u))
 items_utf8 q (Mark c ∷ is) front low s u =
-    let parts = and_parts_of (may_stand false q (Mark c)) (all_may_stand false q is) s in
+    let parts = and_parts (may_stand false q (Mark c)) (all_may_stand false q is) s in
     let here = cut front (c ∷ body q is) 92 (omega arith) u in
     let rest = behind_one c (body q is) (mark_low c parts.0) here.1 in
     all_three front (marked c ∷ []) (all_stand_for false is) here.0 (one_byte (marked c) (marked_low c parts.0)) (items_utf8 q is [] low parts.1 rest)
 items_utf8 q (Hex a b ∷ is) front low s u =
-    let parts = and_parts_of (may_stand false q (Hex a b)) (all_may_stand false q is) s in
-    let digits = and_parts_of (is_hex a) (is_hex b) parts.0 in
+    let parts = and_parts (may_stand false q (Hex a b)) (all_may_stand false q is) s in
+    let digits = and_parts (is_hex a) (is_hex b) parts.0 in
     let here = cut front (120 ∷ a ∷ b ∷ body q is) 92 (omega arith) u in
     let rest = behind_one b (body q is) (hex_low b digits.1) (behind_one a (b ∷ body q is) (hex_low a digits.0) (behind_one 120 (a ∷ b ∷ body q is) (omega arith) here.1)) in
     all_three front (encode_utf8 (hex_natural (a ∷ b ∷ []))) (all_stand_for false is) here.0 (IsUtf8-encode (hex_natural (a ∷ b ∷ [])) (two_low a b)) (items_utf8 q is [] low parts.1 rest)
 items_utf8 q (Code a b c d ∷ is) front low s u =
-    let parts = and_parts_of (may_stand false q (Code a b c d)) (all_may_stand false q is) s in
+    let parts = and_parts (may_stand false q (Code a b c d)) (all_may_stand false q is) s in
     let digits = plain_code a b c d parts.0 in
     let here = cut front (117 ∷ a ∷ b ∷ c ∷ d ∷ body q is) 92 (omega arith) u in
     let ab = behind_one b (c ∷ d ∷ body q is) (hex_low b digits.second) (behind_one a (b ∷ c ∷ d ∷ body q is) (hex_low a digits.first) (behind_one 117 (a ∷ b ∷ c ∷ d ∷ body q is) (omega arith) here.1)) in

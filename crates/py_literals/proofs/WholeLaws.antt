@@ -1,5 +1,6 @@
 -- Whole literals and their values.
 use Rattle.std.proofs.Common.{◌≡◌, ◌∙◌, ◌<◌, ◌≤◌, ◌⊎◌, length, drop, get_or, ◌+◌, ◌*◌, ◌/◌, ◌%◌, ◌==◌, ◌&&◌, not, nat_lt, ℕ, List, [], ◌∷◌, ◌++◌, Bool, true, false, Option, Some, None, option_map, map, encode_utf8, encode_utf8_all, inl, inr, refl, sym, ap, arith}
+use Rattle.std.proofs.lemmas.Bool.{and_from, and_parts}
 use Rattle.std.specs.Prelude.{if◌then◌else◌}
 use Rattle.std.specs.Char.{digit_char, IsScalar, InScalarRange}
 use Rattle.std.specs.Str.{all_scalars}
@@ -116,23 +117,16 @@ two_digits n low = let a = digit_counts (n / 16) (omega arith) in let b = digit_
 hex_stands : (q n : ℕ) → n < 256 → may_stand true q (hex_of n) ≡ true
 hex_stands q n low = let a = digit_is (n / 16) (omega arith) in let b = digit_is (n % 16) (omega arith) in rw (a, b) refl
 
-and_parts_of : (s t : Bool) → s && t ≡ true → (s ≡ true) × (t ≡ true)
-and_parts_of true t h = (refl, h)
-and_parts_of false t h = cc
-
-and_true : (s t : Bool) → s ≡ true → t ≡ true → s && t ≡ true
-and_true s t h j = rw (h, j) refl
-
 all_hex_stand : (q : ℕ) (bytes : List ℕ) → all_below 256 bytes ≡ true → all_may_stand true q (map hex_of bytes) ≡ true
 all_hex_stand q [] h = refl
 all_hex_stand q (n ∷ ns) h =
-    let parts = and_parts_of (nat_lt n 256) (all_below 256 ns) h in
-    and_true (may_stand true q (hex_of n)) (all_may_stand true q (map hex_of ns)) (hex_stands q n (grind arith)) (all_hex_stand q ns parts.1)
+    let parts = and_parts (nat_lt n 256) (all_below 256 ns) h in
+    and_from (may_stand true q (hex_of n)) (all_may_stand true q (map hex_of ns)) (hex_stands q n (grind arith)) (all_hex_stand q ns parts.1)
 
 all_hex_mean : (bytes : List ℕ) → all_below 256 bytes ≡ true → all_stand_for true (map hex_of bytes) ≡ bytes
 all_hex_mean [] h = refl
 all_hex_mean (n ∷ ns) h =
-    let parts = and_parts_of (nat_lt n 256) (all_below 256 ns) h in
+    let parts = and_parts (nat_lt n 256) (all_below 256 ns) h in
     let low : n < 256 = grind arith in
     ap (λ (m : ℕ). m ∷ all_stand_for true (map hex_of ns)) (two_digits n low) ∙ ap (λ (l : List ℕ). n ∷ l) (all_hex_mean ns parts.1)
 
@@ -174,14 +168,14 @@ code_stands q n low s =
 all_codes_stand : (q : ℕ) (cs : List ℕ) → all_below 65536 cs ≡ true → all_scalars cs ≡ true → all_may_stand false q (map code_of cs) ≡ true
 all_codes_stand q [] h s = refl
 all_codes_stand q (n ∷ ns) h s =
-    let parts = and_parts_of (nat_lt n 65536) (all_below 65536 ns) h in
-    let scalars = and_parts_of (scalar n) (all_scalars ns) s in
-    and_true (may_stand false q (code_of n)) (all_may_stand false q (map code_of ns)) (code_stands q n (grind arith) scalars.0) (all_codes_stand q ns parts.1 scalars.1)
+    let parts = and_parts (nat_lt n 65536) (all_below 65536 ns) h in
+    let scalars = and_parts (scalar n) (all_scalars ns) s in
+    and_from (may_stand false q (code_of n)) (all_may_stand false q (map code_of ns)) (code_stands q n (grind arith) scalars.0) (all_codes_stand q ns parts.1 scalars.1)
 
 all_codes_mean : (cs : List ℕ) → all_below 65536 cs ≡ true → all_stand_for false (map code_of cs) ≡ encode_utf8_all cs
 all_codes_mean [] h = refl
 all_codes_mean (n ∷ ns) h =
-    let parts = and_parts_of (nat_lt n 65536) (all_below 65536 ns) h in
+    let parts = and_parts (nat_lt n 65536) (all_below 65536 ns) h in
     let low : n < 65536 = grind arith in
     ap (λ (m : ℕ). encode_utf8 m ++ all_stand_for false (map code_of ns)) (code_digits n low) ∙ ap (λ (l : List ℕ). encode_utf8 n ++ l) (all_codes_mean ns parts.1)
 

@@ -3,7 +3,9 @@ pub mod IntValues
 pub mod Laws
 pub mod Meanings
 pub mod Reading
+pub mod Tokens
 pub mod Values
 pub use Rattle.py_lexer.specs.Items
 pub use Rattle.py_lexer.specs.Literals
+pub use Rattle.py_lexer.specs.Slices
 pub use Rattle.py_lexer.specs.Spellings

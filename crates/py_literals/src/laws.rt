@@ -1,9 +1,13 @@
-ghost use Rattle.std.specs.Prelude.{◌≡◌, ℕ, Bool, true, false, List, Some, pos, ◌<◌, ◌^◌, IsTrue, encode_utf8_all};
+ghost use Rattle.std.specs.Prelude.{◌≡◌, ℕ, Bool, true, false, List, Some, pos, Ok, ◌<◌, ◌^◌, IsTrue, encode_utf8_all};
 ghost use Rattle.std.specs.Fmt.{decimal};
 ghost use Rattle.std.specs.Str.{all_scalars};
+ghost use Rattle.py_lexer.specs.declared.token.Token.{Token};
 ghost use Rattle.py_lexer.specs.Items.{IsLiteral};
+ghost use Rattle.py_lexer.specs.Reading.{tokens_of};
+ghost use Rattle.py_lexer.specs.Slices.{Each};
 ghost use Rattle.py_literals.specs.IntValues.{int_literal_value};
 ghost use Rattle.py_literals.specs.Laws.{StandsFor, all_below, escaped_bytes, escaped_text};
+ghost use Rattle.py_literals.specs.Tokens.{TokenHasValue};
 ghost use Rattle.py_literals.specs.Values.{all_stand_for, bytes_literal_value, text_literal_value};
 
 /// A literal stands for what its items stand for, one after another.
@@ -34,4 +38,9 @@ pub fn escapes_are_read_back()
 /// Each number below 2^127 is read back from its decimal text.
 pub fn decimal_ints_are_read_back()
     ensures { (n : ℕ) → n < 2 ^ 127 → int_literal_value (decimal n) ≡ Some (pos n) }
+{}
+
+/// Each token of a text that is an int, a text or a byte string has a value.
+pub fn literal_tokens_have_values()
+    ensures { (text : List ℕ) (ts : List Token) → tokens_of text ≡ Ok ts → Each (TokenHasValue text) ts }
 {}

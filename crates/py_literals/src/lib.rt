@@ -10,7 +10,7 @@ mod texts;
 
 pub use int::int_literal;
 pub use laws::{
-    decimal_ints_are_read_back, escapes_are_read_back, literals_have_one_reading,
-    literals_have_values, only_literals_have_values,
+    decimal_ints_are_read_back, escapes_are_read_back, literal_tokens_have_values,
+    literals_have_one_reading, literals_have_values, only_literals_have_values,
 };
 pub use texts::{bytes_literal, text_literal};
