@@ -1,3 +1,4 @@
+pub mod Members
 pub mod Mentions
 pub mod Parts
 pub mod Rules
