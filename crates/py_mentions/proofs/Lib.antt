@@ -1,3 +1,4 @@
+pub mod Examples
 pub mod MemberLaws
 pub mod StandingLaws
 pub mod WalkLaws

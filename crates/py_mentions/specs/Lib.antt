@@ -1,3 +1,4 @@
+pub mod Computing
 pub mod Members
 pub mod Mentions
 pub mod Parts

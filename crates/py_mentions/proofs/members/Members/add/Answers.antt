@@ -1,4 +1,4 @@
-use Rattle.std.proofs.Common.{◌≡◌, ◌∙◌, ap, sym, ◌==◌, ◌&&◌, ◌||◌, List, ℕ, Some, Option, option_map, slice_get}
+use Rattle.std.proofs.Common.{◌≡◌, ◌∙◌, ap, ◌==◌, ◌&&◌, ◌||◌, List, ℕ, Some, Option, slice_get}
 use Rattle.std.specs.Str.{bytes_eq}
 use Rattle.py_mentions.specs.Members.{has_member}
 use Rattle.py_mentions.specs.Rules.{bound_name, is_it}
