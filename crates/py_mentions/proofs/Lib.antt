@@ -1,3 +1,5 @@
+pub mod Examples
+pub mod MemberLaws
 pub mod StandingLaws
 pub mod WalkLaws
 pub mod WorstLaws

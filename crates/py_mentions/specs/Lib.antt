@@ -1,3 +1,5 @@
+pub mod Computing
+pub mod Members
 pub mod Mentions
 pub mod Parts
 pub mod Rules

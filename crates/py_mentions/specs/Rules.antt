@@ -113,23 +113,27 @@ link_breaks p k = unless (not (asks_identity k.comparison) || is_none (slice_get
 
 -- ---- class bodies
 
--- a statement directly in a class body binds this name
-abbrev pub target_binds : List ℕ → Option Node → Bool
-target_binds t (Some (node.Target (target.Name u))) = bytes_eq t u
-target_binds t _ = false
+-- the name that a statement directly in a suite binds, by `name =` or `def`
+abbrev pub target_name : Option Node → Option (List ℕ)
+target_name (Some (node.Target (target.Name t))) = Some t
+target_name _ = None
 
-abbrev pub function_binds : List ℕ → Option FunctionInfo → Bool
-function_binds t None = false
-function_binds t (Some info) = bytes_eq t info.name
+abbrev pub function_name : Option FunctionInfo → Option (List ℕ)
+function_name None = None
+function_name (Some info) = Some info.name
 
-abbrev pub statement_binds : Program → List ℕ → Option Node → Bool
-statement_binds p t (Some (node.Statement (statement.Assign a e))) = target_binds t (slice_get p.nodes a)
-statement_binds p t (Some (node.Statement (statement.Def f))) = function_binds t (slice_get p.functions f)
-statement_binds p t _ = false
+abbrev pub bound_name : Program → Option Node → Option (List ℕ)
+bound_name p (Some (node.Statement (statement.Assign a e))) = target_name (slice_get p.nodes a)
+bound_name p (Some (node.Statement (statement.Def f))) = function_name (slice_get p.functions f)
+bound_name p _ = None
+
+abbrev pub is_it : List ℕ → Option (List ℕ) → Bool
+is_it t None = false
+is_it t (Some u) = bytes_eq u t
 
 abbrev pub any_binds : Program → List ℕ → List ℕ → Bool
 any_binds p t [] = false
-any_binds p t (n ∷ ns) = statement_binds p t (slice_get p.nodes n) || any_binds p t ns
+any_binds p t (n ∷ ns) = is_it t (bound_name p (slice_get p.nodes n)) || any_binds p t ns
 
 abbrev pub suite_binds : Program → List ℕ → Option Node → Bool
 suite_binds p t (Some (node.Statement (statement.Suite ns))) = any_binds p t ns

@@ -1,7 +1,9 @@
 ghost use Rattle.std.specs.Prelude.{◌≡◌, [], flat_map, slice_get};
-ghost use Rattle.py_mentions.specs.Rules.{any_binds, asks_identity, is_at_top, is_name, is_text, broken_at, builtin_breaks, class_binds, expression_breaks, fits_class, function_binds, has_name, is_none, kind_breaks, link_breaks, maybe_name_breaks, may_be_bare, member_breaks, name_breaks, own_breaks, parameters_break, raise_breaks, read_breaks, repeat_breaks, statement_binds, target_binds, unless};
+ghost use Rattle.py_mentions.specs.Members.{Knows};
+ghost use Rattle.py_mentions.specs.Rules.{asks_identity, is_at_top, is_name, is_text, broken_at, builtin_breaks, expression_breaks, fits_class, has_name, is_none, kind_breaks, link_breaks, maybe_name_breaks, may_be_bare, member_breaks, name_breaks, own_breaks, parameters_break, raise_breaks, read_breaks, repeat_breaks, unless};
 ghost use Rattle.py_mentions.specs.Worst.{worst_with};
 
+use crate::members::Members;
 use crate::mentioning::line_of;
 use crate::names::{is_exception, is_reserved, takes};
 use crate::place::{Construct, Role};
@@ -12,19 +14,21 @@ use rp_base::{Plain, Refused, Rule};
 
 /// The worst of `worst` and what the node of this number breaks.
 #[tactic(auto, using(crate::specs::Worst::worst_more), unfolding(crate::specs::Rules::broken_at))]
-pub fn worst_at(
+pub fn worst_at<'a>(
     worst: Option<Refused>,
-    program: &Program,
+    program: &'a Program,
+    members: &Members<'a>,
     constructs: &[Construct],
     role: Role,
     number: u32,
 ) -> Option<Refused>
+    requires { Knows program.now members.now.set }
     ensures { result ≡ worst_with worst (broken_at program.now constructs.now role number) }
 {
     let line = line_of(program, number);
     match program.nodes.get(number as usize) {
         Some(Node::Expression(expression)) => expression_breaks(
-            worst, program, constructs, role, line, expression,
+            worst, program, members, constructs, role, line, expression,
         ),
         Some(Node::Statement(statement)) => {
             let worst = own_breaks(worst, program, constructs, role, line, statement);
@@ -132,72 +136,22 @@ fn links_break(worst: Option<Refused>, program: &Program, links: &[Link]) -> Opt
     worst
 }
 
-fn target_binds(program: &Program, name: &[u8], number: u32) -> bool
-    ensures { result ≡ target_binds name.now (slice_get program.now.nodes number) }
-{
-    match program.nodes.get(number as usize) {
-        Some(Node::Target(Target::Name(bound))) => name == bound.as_str().as_bytes(),
-        _ => false,
-    }
-}
-
-fn function_binds(program: &Program, name: &[u8], function: u32) -> bool
-    ensures { result ≡ function_binds name.now (slice_get program.now.functions function) }
-{
-    match program.functions.get(function as usize) {
-        Some(info) => name == info.name.as_str().as_bytes(),
-        None => false,
-    }
-}
-
-fn statement_binds(program: &Program, name: &[u8], number: u32) -> bool
-    ensures { result ≡ statement_binds program.now name.now (slice_get program.now.nodes number) }
-{
-    match program.nodes.get(number as usize) {
-        Some(Node::Statement(Statement::Assign { target, .. })) => target_binds(
-            program, name, *target,
-        ),
-        Some(Node::Statement(Statement::Def(function))) => function_binds(program, name, *function),
-        _ => false,
-    }
-}
-
-fn any_binds(program: &Program, name: &[u8], statements: &[u32]) -> bool
-    ensures { result ≡ any_binds program.now name.now statements.now }
-{
-    for statement in statements {
-        if statement_binds(program, name, *statement) {
-            return true;
-        }
-    }
-    false
-}
-
-/// Whether the class body around a place binds the name.
-fn class_binds(program: &Program, name: &[u8], class: Option<u32>) -> bool
-    ensures { result ≡ class_binds program.now name.now class }
-{
-    let Some(suite) = class else { return false };
-    match program.nodes.get(suite as usize) {
-        Some(Node::Statement(Statement::Suite(statements))) => any_binds(
-            program,
-            name,
-            statements.as_slice(),
-        ),
-        _ => false,
-    }
-}
-
-fn read_breaks(
+/// An expression of a class body reads no name that the body binds.
+fn read_breaks<'a>(
     worst: Option<Refused>,
-    program: &Program,
+    program: &'a Program,
+    members: &Members<'a>,
     constructs: &[Construct],
     line: u32,
-    name: &[u8],
+    name: &'a str,
 ) -> Option<Refused>
+    requires { Knows program.now members.now.set }
     ensures { result ≡ worst_with worst (read_breaks program.now constructs.now line name.now) }
 {
-    let is_bound = class_binds(program, name, class_at(constructs));
+    let is_bound = match class_at(constructs) {
+        Some(suite) => members.has(suite, name),
+        None => false,
+    };
     unless(worst, !is_bound, line, Rule::S9)
 }
 
@@ -279,25 +233,27 @@ fn parameters_break(worst: Option<Refused>, program: &Program, function: u32) ->
 }
 
 #[tactic(auto, using(crate::specs::Worst::worst_more))]
-fn expression_breaks(
+fn expression_breaks<'a>(
     worst: Option<Refused>,
-    program: &Program,
+    program: &'a Program,
+    members: &Members<'a>,
     constructs: &[Construct],
     role: Role,
     line: u32,
-    expression: &Expression,
+    expression: &'a Expression,
 ) -> Option<Refused>
+    requires { Knows program.now members.now.set }
     ensures { result ≡ worst_with worst (expression_breaks program.now constructs.now role line expression.now) }
 {
     match expression {
         Expression::Name(name) => {
-            let name = name.as_str().as_bytes();
-            let worst = unless(worst, !is_reserved(name), line, Rule::S2);
-            read_breaks(worst, program, constructs, line, name)
+            let name = name.as_str();
+            let worst = unless(worst, !is_reserved(name.as_bytes()), line, Rule::S2);
+            read_breaks(worst, program, members, constructs, line, name)
         }
         Expression::Builtin(builtin) => {
             let worst = builtin_breaks(worst, *builtin, role, line);
-            read_breaks(worst, program, constructs, line, builtin.text().as_bytes())
+            read_breaks(worst, program, members, constructs, line, builtin.text())
         }
         Expression::Compare { links, .. } => links_break(worst, program, links.as_slice()),
         Expression::Lambda(function) => parameters_break(worst, program, *function),

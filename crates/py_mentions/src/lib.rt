@@ -3,6 +3,7 @@
 
 mod breaking;
 mod laws;
+mod members;
 mod mention;
 mod mentioning;
 mod names;

@@ -1,4 +1,5 @@
 ghost use Rattle.std.specs.Prelude.{◌≡◌, ◌++◌, ◌∷◌, [], None, IfOk, filter, map, reverse};
+ghost use Rattle.py_mentions.specs.Members.{Knows};
 ghost use Rattle.py_mentions.specs.Mentions.{mentions_at};
 ghost use Rattle.py_mentions.specs.Parts.{part};
 ghost use Rattle.py_mentions.specs.Rules.{broken_at};
@@ -7,6 +8,7 @@ ghost use Rattle.py_mentions.specs.Walks.{broken_in, mentions_in, smaller, small
 ghost use Rattle.py_mentions.specs.Worst.{worst, worst_more, worst_with};
 
 use crate::breaking::worst_at;
+use crate::members::Members;
 use crate::mention::{Mention, Places};
 use crate::mentioning::put_mentions;
 use crate::parts::put_parts;
@@ -34,9 +36,10 @@ pub fn places(alloc: Global, program: &Program) -> Result<Places, NoMemory>
     ensures mentions { IfOk result (λ found. found.mentions ≡ mentions_in program.now) }
     ensures worst { IfOk result (λ found. found.worst ≡ worst (broken_in program.now)) }
 {
+    let members = Members::of(alloc, program)?;
     let mut walk = begin(alloc, program)?;
     'tasks: while let Some(task) = walk.tasks.pop() {
-        step(alloc, &mut walk, program, task)?;
+        step(alloc, &mut walk, program, &members, task)?;
     }
     Ok(Places {
         mentions: walk.mentions,
@@ -67,7 +70,14 @@ fn begin(alloc: Global, program: &Program) -> Result<Walk, NoMemory>
 }
 
 /// Does one task, which was taken from the walk.
-fn step(alloc: Global, walk: &mut Walk, program: &Program, task: Task) -> Result<(), NoMemory>
+fn step<'a>(
+    alloc: Global,
+    walk: &mut Walk,
+    program: &'a Program,
+    members: &Members<'a>,
+    task: Task,
+) -> Result<(), NoMemory>
+    requires { Knows program.now members.now.set }
     ensures mentions { IfOk result (λ _. walk.new.mentions ≡ walk.old.mentions ++ task_finds (mentions_at program.now) walk.old.constructs.items task) }
     ensures worst { IfOk result (λ _. walk.new.worst ≡ worst_with walk.old.worst (task_finds (broken_at program.now) walk.old.constructs.items task)) }
     ensures constructs { IfOk result (λ _. walk.new.constructs.items ≡ constructs_after walk.old.constructs.items task) }
@@ -78,11 +88,18 @@ fn step(alloc: Global, walk: &mut Walk, program: &Program, task: Task) -> Result
             let _left = walk.constructs.pop();
             Ok(())
         }
-        Task::Visit(part) => visit(alloc, walk, program, part),
+        Task::Visit(part) => visit(alloc, walk, program, members, part),
     }
 }
 
-fn visit(alloc: Global, walk: &mut Walk, program: &Program, part: Part) -> Result<(), NoMemory>
+fn visit<'a>(
+    alloc: Global,
+    walk: &mut Walk,
+    program: &'a Program,
+    members: &Members<'a>,
+    part: Part,
+) -> Result<(), NoMemory>
+    requires { Knows program.now members.now.set }
     ensures mentions { IfOk result (λ _. walk.new.mentions ≡ walk.old.mentions ++ mentions_at program.now (within walk.old.constructs.items part.around) part.role part.number) }
     ensures worst { IfOk result (λ _. walk.new.worst ≡ worst_with walk.old.worst (broken_at program.now (within walk.old.constructs.items part.around) part.role part.number)) }
     ensures constructs { IfOk result (λ _. walk.new.constructs.items ≡ within walk.old.constructs.items part.around) }
@@ -98,7 +115,14 @@ fn visit(alloc: Global, walk: &mut Walk, program: &Program, part: Part) -> Resul
         part.role,
         part.number,
     )?;
-    walk.worst = worst_at(walk.worst, program, constructs, part.role, part.number);
+    walk.worst = worst_at(
+        walk.worst,
+        program,
+        members,
+        constructs,
+        part.role,
+        part.number,
+    );
     walk.parts.clear();
     put_parts(&mut walk.parts, program, part.role, part.number)?;
     put_off(&mut walk.tasks, &mut walk.parts, part.number)
