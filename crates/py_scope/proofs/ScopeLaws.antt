@@ -2,7 +2,7 @@
 use Rattle.std.proofs.Common.{◌≡◌, ◌∙◌, sym, ap, refl, ℕ, zero, suc, ◌-◌, ◌+◌, ◌<◌, ◌≤◌, Bool, true, false, not, ◌&&◌, ◌==◌, List, [], ◌∷◌, length, Option, Some, None, arith, subst}
 use Rattle.std.specs.Prelude.{if◌then◌else◌}
 use Rattle.py_ast.specs.declared.program.FunctionInfo.{FunctionInfo}
-use Rattle.py_scope.specs.declared.mention.Mention.{Mention}
+use Rattle.py_mentions.specs.declared.mention.Mention.{Mention}
 use Rattle.py_scope.specs.declared.holding.Holding.{Holding}
 use Rattle.std.proofs.lemmas.Bool.{eqb-true}
 use Rattle.py_scope.specs.Forms.{binds, is_number}

@@ -5,9 +5,9 @@ ghost use Rattle.py_scope.specs.Tables.{Knows};
 use crate::classes::ClassTable;
 use crate::holding::Holding;
 use crate::locals::{LocalFacts, LocalTable};
-use crate::mention::Mention;
 use crate::names::NameTable;
 use py_ast::FunctionInfo;
+use py_mentions::Mention;
 use rp_base::NoMemory;
 use std::alloc::Global;
 

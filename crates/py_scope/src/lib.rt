@@ -8,8 +8,8 @@ mod finishing;
 mod forms;
 mod holding;
 mod judging;
+mod laws;
 mod locals;
-mod mention;
 mod name_set;
 mod names;
 mod rules;
@@ -18,3 +18,4 @@ mod words;
 
 pub use ending::AcceptEnd;
 pub use judging::judge;
+pub use laws::one_is_first;

@@ -4,8 +4,8 @@ ghost use Rattle.py_scope.specs.Tables.{name_in, name_with, name_noted, lesser, 
 
 use crate::forms::{binds, is_base, is_caught, is_class};
 use crate::locals::LocalTable;
-use crate::mention::Mention;
 use indexmap::IndexMap;
+use py_mentions::Mention;
 use rp_base::NoMemory;
 use std::alloc::Global;
 

@@ -8,9 +8,8 @@ use crate::forms::{
     is_attribute, is_base, is_caught, is_class, is_global, is_nonlocal, is_raised, names_anew,
 };
 use crate::locals::LocalTable;
-use crate::mention::Mention;
 use crate::words::{is_left_out, is_private, is_reserved, is_special};
-use py_mentions::{Form, is_exception, worse};
+use py_mentions::{Form, Mention, is_exception, worse};
 use rp_base::{NoMemory, Refused, Rule};
 use std::alloc::Global;
 

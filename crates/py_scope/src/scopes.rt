@@ -8,8 +8,8 @@ use crate::facts::Facts;
 use crate::forms::{binds, is_caught, looks_up};
 use crate::holding::Holding;
 use crate::locals::LocalFacts;
-use crate::mention::Mention;
 use crate::name_set::{NameSet, empty_sets};
+use py_mentions::Mention;
 use rp_base::NoMemory;
 use std::alloc::Global;
 
