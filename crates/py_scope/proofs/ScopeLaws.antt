@@ -42,7 +42,7 @@ module _ (ms : List Mention) (fs : List FunctionInfo) (n : List ℕ) where
   pub kept_start : (o : Option ℕ) (len : ℕ) → is_kept ms (outwards len fs o) n ≡ is_kept ms (outwards (len - 0) fs o) n
   kept_start o len = let same : len ≡ len - 0 = omega arith in ap (λ k. is_kept ms (outwards k fs o) n) same
 
--- ---- the functions that pass a name on
+  -- ---- the functions that pass a name on
 
   no_one : (most : ℕ) → passing ms (outwards most fs None) n ≡ []
   unfolding outwards passing

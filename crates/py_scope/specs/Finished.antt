@@ -42,7 +42,8 @@ abbrev pub finished_function : List Mention → List FunctionInfo → ℕ → Fu
 finished_function ms fs f info = record info {
   locals = parameter_names info ++ other_locals ms ms f;
   free = free_names ms fs ms f;
-  has_inner = has_inner fs f }
+  has_inner = has_inner fs f;
+}
 
 unfoldable pub finished_from : List Mention → List FunctionInfo → ℕ → List FunctionInfo → List FunctionInfo
 finished_from ms fs f [] = []

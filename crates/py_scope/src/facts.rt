@@ -36,7 +36,11 @@ fn holding_by(facts: LocalFacts) -> Holding
 }
 
 impl<'a> Facts<'a> {
-    pub fn of(alloc: Global, mentions: &'a [Mention], functions: &'a [FunctionInfo]) -> Result<Facts<'a>, NoMemory>
+    pub fn of(
+        alloc: Global,
+        mentions: &'a [Mention],
+        functions: &'a [FunctionInfo],
+    ) -> Result<Facts<'a>, NoMemory>
         ensures mentions { IfOk result (λ f. f.mentions.now ≡ mentions.now) }
         ensures functions { IfOk result (λ f. f.functions.now ≡ functions.now) }
         ensures known { IfOk result (λ f. Knows f) }

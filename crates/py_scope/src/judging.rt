@@ -23,7 +23,12 @@ struct Settled {
     handler_names: Items<Text>,
 }
 
-fn settle(alloc: Global, program: &Program, mentions: &[Mention], worst: Option<Refused>) -> Result<Settled, NoMemory>
+fn settle(
+    alloc: Global,
+    program: &Program,
+    mentions: &[Mention],
+    worst: Option<Refused>,
+) -> Result<Settled, NoMemory>
     ensures worst { IfOk result (λ s. s.worst ≡ worst_with worst (broken_names mentions.now program.now.functions)) }
     ensures functions { IfOk result (λ s. s.functions ≡ finished_from mentions.now program.now.functions 0 program.now.functions) }
     ensures handlers { IfOk result (λ s. s.handler_names ≡ handler_names mentions.now) }

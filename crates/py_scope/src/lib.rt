@@ -14,6 +14,8 @@ mod name_set;
 mod names;
 mod rules;
 mod scopes;
+#[cfg(test)]
+mod tests;
 mod words;
 
 pub use ending::AcceptEnd;

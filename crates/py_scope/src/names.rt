@@ -99,7 +99,11 @@ impl<'a> NameTable<'a> {
     }
 
     /// What these mentions say. `locals` says what they say of names in functions.
-    pub fn of(alloc: Global, mentions: &'a [Mention], locals: &LocalTable<'a>) -> Result<NameTable<'a>, NoMemory>
+    pub fn of(
+        alloc: Global,
+        mentions: &'a [Mention],
+        locals: &LocalTable<'a>,
+    ) -> Result<NameTable<'a>, NoMemory>
         requires { KnowsLocals mentions.now locals.now.map }
         ensures { IfOk result (λ t. KnowsNames mentions.now mentions.now t.map) }
     {

@@ -142,7 +142,12 @@ impl<'a> Facts<'a> {
     }
 
     /// The worst so far, with the rules that this mention breaks.
-    fn judge(&self, worst: Option<Refused>, before: &LocalTable<'a>, mention: &'a Mention) -> Option<Refused>
+    fn judge(
+        &self,
+        worst: Option<Refused>,
+        before: &LocalTable<'a>,
+        mention: &'a Mention,
+    ) -> Option<Refused>
         requires { Knows self.now }
         ensures { (earlier : List Mention) → KnowsLocals earlier before.now.map → result ≡ worst_with worst (breaks self.now.mentions.now self.now.functions.now earlier mention.now) }
     {
@@ -156,7 +161,11 @@ impl<'a> Facts<'a> {
     }
 
     /// The worst so far, with the rules on names that the script breaks.
-    pub fn judge_all(&self, alloc: Global, worst: Option<Refused>) -> Result<Option<Refused>, NoMemory>
+    pub fn judge_all(
+        &self,
+        alloc: Global,
+        worst: Option<Refused>,
+    ) -> Result<Option<Refused>, NoMemory>
         requires { Knows self.now }
         ensures { IfOk result (λ w. w ≡ worst_with worst (broken_names self.now.mentions.now self.now.functions.now)) }
     {
