@@ -2,7 +2,7 @@
 use Rattle.std.proofs.Common.{◌≡◌, ◌∙◌, sym, ap, refl, ℕ, suc, ◌+◌, ◌<◌, ◌≤◌, List, [], ◌∷◌, ◌++◌, drop, length, get_or, drop-cons, add-one, append_assoc, arith}
 use Rattle.std.proofs.lemmas.List.{at_drop_all}
 use Rattle.py_ast.specs.declared.program.FunctionInfo.{FunctionInfo}
-use Rattle.py_scope.specs.declared.mention.Mention.{Mention}
+use Rattle.py_mentions.specs.declared.mention.Mention.{Mention}
 use Rattle.py_scope.specs.Finished.{finished_function, finished_from}
 
 module _ (ms : List Mention) (fs : List FunctionInfo) (i : ℕ) (done : List FunctionInfo) where

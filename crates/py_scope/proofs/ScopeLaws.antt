@@ -2,7 +2,7 @@
 use Rattle.std.proofs.Common.{◌≡◌, ◌∙◌, sym, ap, refl, ℕ, zero, suc, ◌-◌, ◌+◌, ◌<◌, ◌≤◌, Bool, true, false, not, ◌&&◌, ◌==◌, List, [], ◌∷◌, length, Option, Some, None, arith, subst}
 use Rattle.std.specs.Prelude.{if◌then◌else◌}
 use Rattle.py_ast.specs.declared.program.FunctionInfo.{FunctionInfo}
-use Rattle.py_scope.specs.declared.mention.Mention.{Mention}
+use Rattle.py_mentions.specs.declared.mention.Mention.{Mention}
 use Rattle.py_scope.specs.declared.holding.Holding.{Holding}
 use Rattle.std.proofs.lemmas.Bool.{eqb-true}
 use Rattle.py_scope.specs.Forms.{binds, is_number}
@@ -42,7 +42,7 @@ module _ (ms : List Mention) (fs : List FunctionInfo) (n : List ℕ) where
   pub kept_start : (o : Option ℕ) (len : ℕ) → is_kept ms (outwards len fs o) n ≡ is_kept ms (outwards (len - 0) fs o) n
   kept_start o len = let same : len ≡ len - 0 = omega arith in ap (λ k. is_kept ms (outwards k fs o) n) same
 
--- ---- the functions that pass a name on
+  -- ---- the functions that pass a name on
 
   no_one : (most : ℕ) → passing ms (outwards most fs None) n ≡ []
   unfolding outwards passing

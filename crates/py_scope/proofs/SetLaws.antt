@@ -10,7 +10,7 @@ use Rattle.std.proofs.lemmas.Option.{slice_get_past}
 use Rattle.std.specs.Cmp.Lexicographic.{bytes_decides}
 use Rattle.std.proofs.lemmas.List.Elements.{filter-append}
 use Rattle.indexmap.specs.IndexSet.{insert_key}
-use Rattle.py_scope.specs.declared.mention.Mention.{Mention}
+use Rattle.py_mentions.specs.declared.mention.Mention.{Mention}
 use Rattle.py_scope.specs.Names.{with_name, once, names_where, Sets, added_if, Added, Each}
 
 -- ---- one set

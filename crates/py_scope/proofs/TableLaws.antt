@@ -11,7 +11,7 @@ use Rattle.std.proofs.lemmas.Bool.{eqb-true}
 use Rattle.std.proofs.lemmas.Grind.{common_steps}
 use Rattle.std.proofs.lemmas.List.Folds.{list_any_more}
 use Rattle.py_mentions.specs.declared.mention.Form.{Form}
-use Rattle.py_scope.specs.declared.mention.Mention.{Mention}
+use Rattle.py_mentions.specs.declared.mention.Mention.{Mention}
 use Rattle.py_scope.specs.declared.locals.LocalFacts.{LocalFacts}
 use Rattle.py_scope.specs.declared.names.NameFacts.{NameFacts}
 use Rattle.py_scope.specs.declared.classes.ClassFacts.{ClassFacts}
@@ -101,21 +101,24 @@ module _ (ms : List Mention) (i : ℕ) (m d : Mention) (within : i < length ms) 
         is_bound = more (in_function binds f n) j;
         is_global = more (in_function is_global f n) j;
         is_nonlocal = more (in_function is_nonlocal f n) j;
-        is_used = more (in_function uses f n) j }) ∙ by (is_number f m.function && bytes_eq m.name n) (local_facts (take i ms) f n)
+        is_used = more (in_function uses f n) j;
+      }) ∙ by (is_number f m.function && bytes_eq m.name n) (local_facts (take i ms) f n)
     where
       by : (here : Bool) (l : LocalFacts) → record {
         is_parameter = l.is_parameter || (here && is_parameter m.form);
         is_bound = l.is_bound || (here && binds m.form);
         is_global = l.is_global || (here && is_global m.form);
         is_nonlocal = l.is_nonlocal || (here && is_nonlocal m.form);
-        is_used = l.is_used || (here && uses m.form) } ≡ (if here then local_with m.form l else l)
+        is_used = l.is_used || (here && uses m.form);
+      } ≡ (if here then local_with m.form l else l)
       by true l = refl
       by false l = λ j. record {
         is_parameter = sym (unmet l.is_parameter (is_parameter m.form)) j;
         is_bound = sym (unmet l.is_bound (binds m.form)) j;
         is_global = sym (unmet l.is_global (is_global m.form)) j;
         is_nonlocal = sym (unmet l.is_nonlocal (is_nonlocal m.form)) j;
-        is_used = sym (unmet l.is_used (uses m.form)) j }
+        is_used = sym (unmet l.is_used (uses m.form)) j;
+      }
 
   pub class_more : (k : ℕ) → class_facts (take (i + 1) ms) k ≡ class_noted m k (class_facts (take i ms) k)
   unfolding has_base has_operator
@@ -140,14 +143,16 @@ module _ (ms : List Mention) (i : ℕ) (m d : Mention) (within : i < length ms) 
             rebound = (λ j. h.rebound j || ((binds m.form && not (is_class m.form)) && own_here j))
                 ∙ ap (λ b. list_any (rebinds all n) (take i ms) || (b && ((binds m.form && not (is_class m.form)) && in_script all m.function n))) (sym e) ∙ sym (more (rebinds all n));
             classes = λ k. below_lesser k l.first_class (class_number m) ∙ (λ j. h.classes k j || below_class k m j)
-                ∙ ap (λ b. list_any (is_earlier k n) (take i ms) || ((b && is_class m.form) && is_below k m.class)) (sym e) ∙ sym (more (is_earlier k n)) }
+                ∙ ap (λ b. list_any (is_earlier k n) (take i ms) || ((b && is_class m.form) && is_below k m.class)) (sym e) ∙ sym (more (is_earlier k n));
+          }
       by false e = record {
         handled = h.handled ∙ unmet _ (is_caught m.form) ∙ ap (λ b. list_any (anywhere is_caught n) (take i ms) || (b && is_caught m.form)) (sym e) ∙ sym (more (anywhere is_caught n));
         base = h.base ∙ unmet _ (is_base m.form) ∙ ap (λ b. list_any (anywhere is_base n) (take i ms) || (b && is_base m.form)) (sym e) ∙ sym (more (anywhere is_base n));
         rebound = h.rebound ∙ unmet _ ((binds m.form && not (is_class m.form)) && in_script all m.function n)
             ∙ ap (λ b. list_any (rebinds all n) (take i ms) || (b && ((binds m.form && not (is_class m.form)) && in_script all m.function n))) (sym e) ∙ sym (more (rebinds all n));
         classes = λ k. h.classes k ∙ unmet _ (is_below k m.class)
-            ∙ ap (λ b. list_any (is_earlier k n) (take i ms) || ((b && is_class m.form) && is_below k m.class)) (sym e) ∙ sym (more (is_earlier k n)) }
+            ∙ ap (λ b. list_any (is_earlier k n) (take i ms) || ((b && is_class m.form) && is_below k m.class)) (sym e) ∙ sym (more (is_earlier k n));
+      }
 
 -- ---- nothing is noted yet
 

@@ -3,7 +3,7 @@ use Rattle.std.specs.Prelude.{◌≡◌, ℕ, Bool, true, false, not, ◌&&◌, 
 use Rattle.std.specs.List.{list_any}
 use Rattle.std.specs.Str.{bytes_eq}
 use Rattle.py_mentions.specs.declared.mention.Form.{Form}
-use Rattle.py_scope.specs.declared.mention.Mention.{Mention}
+use Rattle.py_mentions.specs.declared.mention.Mention.{Mention}
 use Rattle.py_scope.specs.Words.{is_operator}
 use Rattle.py_scope.specs.Forms.{is_parameter, binds, is_caught, is_global, is_nonlocal, uses, is_class, is_base, is_method, is_number, is_below}
 

@@ -3,7 +3,7 @@ use Rattle.std.specs.Prelude.{ℕ, suc, Bool, true, false, ◌&&◌, ◌||◌, �
 use Rattle.std.specs.List.{list_any}
 use Rattle.py_ast.specs.declared.program.FunctionInfo.{FunctionInfo}
 use Rattle.py_ast.specs.declared.program.Program.{Program}
-use Rattle.py_scope.specs.declared.mention.Mention.{Mention}
+use Rattle.py_mentions.specs.declared.mention.Mention.{Mention}
 use Rattle.py_scope.specs.declared.locals.LocalFacts.{LocalFacts}
 use Rattle.py_scope.specs.Forms.{binds, is_caught, looks_up, is_number}
 use Rattle.py_scope.specs.Tables.{local_facts}
@@ -42,7 +42,8 @@ abbrev pub finished_function : List Mention → List FunctionInfo → ℕ → Fu
 finished_function ms fs f info = record info {
   locals = parameter_names info ++ other_locals ms ms f;
   free = free_names ms fs ms f;
-  has_inner = has_inner fs f }
+  has_inner = has_inner fs f;
+}
 
 unfoldable pub finished_from : List Mention → List FunctionInfo → ℕ → List FunctionInfo → List FunctionInfo
 finished_from ms fs f [] = []

@@ -3,7 +3,7 @@ use Rattle.std.specs.Prelude.{◌≡◌, ℕ, Bool, List, [], ◌∷◌, ◌++�
 use Rattle.std.specs.List.{list_any}
 use Rattle.std.specs.Option.{option_map}
 use Rattle.std.specs.Str.{bytes_eq}
-use Rattle.py_scope.specs.declared.mention.Mention.{Mention}
+use Rattle.py_mentions.specs.declared.mention.Mention.{Mention}
 
 abbrev pub with_name : List (List ℕ) → List ℕ → List (List ℕ)
 with_name ns n = if list_any (bytes_eq n) ns then ns else ns ++ n ∷ []

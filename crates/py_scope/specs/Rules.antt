@@ -7,7 +7,7 @@ use Rattle.py_ast.specs.declared.program.FunctionInfo.{FunctionInfo}
 use Rattle.py_mentions.specs.declared.mention.Form.{Form}
 use Rattle.py_mentions.specs.declared.mention.Form.TheVariants as form
 use Rattle.py_mentions.specs.Rules.{names_exception}
-use Rattle.py_scope.specs.declared.mention.Mention.{Mention}
+use Rattle.py_mentions.specs.declared.mention.Mention.{Mention}
 use Rattle.py_scope.specs.Words.{is_reserved, is_left_out, is_private, is_special}
 use Rattle.py_scope.specs.Forms.{is_parameter, is_caught, names_anew, is_global, is_nonlocal, uses, is_class, is_base, is_attribute, is_raised}
 use Rattle.py_scope.specs.Facts.{mentioned, occurs, is_handled, earlier_class, is_rebound, has_base, has_operator}

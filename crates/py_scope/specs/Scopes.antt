@@ -2,7 +2,7 @@
 use Rattle.std.specs.Prelude.{ℕ, zero, suc, Bool, true, false, ◌&&◌, ◌||◌, ◌==◌, not, List, [], ◌∷◌, length, slice_get, Option, Some, None, if◌then◌else◌}
 use Rattle.std.specs.List.{list_any}
 use Rattle.py_ast.specs.declared.program.FunctionInfo.{FunctionInfo}
-use Rattle.py_scope.specs.declared.mention.Mention.{Mention}
+use Rattle.py_mentions.specs.declared.mention.Mention.{Mention}
 use Rattle.py_scope.specs.declared.holding.Holding.{Holding}
 use Rattle.py_scope.specs.declared.holding.Holding.TheVariants as holding
 use Rattle.py_scope.specs.declared.locals.LocalFacts.{LocalFacts}

@@ -5,7 +5,7 @@ use Rattle.std.specs.Option.{unwrap_or}
 use Rattle.std.specs.HashMap.{HashMap, get_by}
 use denote.Ref.{Bor}
 use Rattle.py_mentions.specs.declared.mention.Form.{Form}
-use Rattle.py_scope.specs.declared.mention.Mention.{Mention}
+use Rattle.py_mentions.specs.declared.mention.Mention.{Mention}
 use Rattle.py_scope.specs.declared.locals.LocalFacts.{LocalFacts}
 use Rattle.py_scope.specs.declared.names.NameFacts.{NameFacts}
 use Rattle.py_scope.specs.declared.classes.ClassFacts.{ClassFacts}
@@ -29,7 +29,8 @@ local_with f l = record {
   is_bound = l.is_bound || binds f;
   is_global = l.is_global || is_global f;
   is_nonlocal = l.is_nonlocal || is_nonlocal f;
-  is_used = l.is_used || uses f }
+  is_used = l.is_used || uses f;
+}
 
 abbrev pub of_local : ℕ → List ℕ → ℕ × Bor (List ℕ) → Bool
 of_local f n k = (f == k.0) && bytes_eq n k.1.now
@@ -47,7 +48,8 @@ local_facts ms f n = record {
   is_bound = mentioned binds ms f n;
   is_global = mentioned is_global ms f n;
   is_nonlocal = mentioned is_nonlocal ms f n;
-  is_used = mentioned uses ms f n }
+  is_used = mentioned uses ms f n;
+}
 
 abbrev pub KnowsLocals : {S : Type 0} → List Mention → LocalMap S → Type 0
 KnowsLocals ms t = (f : ℕ) → (n : List ℕ) → local_in t f n ≡ local_facts ms f n
@@ -75,7 +77,8 @@ name_with m own l = record {
   is_handled = l.is_handled || is_caught m.form;
   is_base = l.is_base || is_base m.form;
   is_rebound = l.is_rebound || ((binds m.form && not (is_class m.form)) && own);
-  first_class = lesser l.first_class (class_number m) }
+  first_class = lesser l.first_class (class_number m);
+}
 
 abbrev pub of_name : List ℕ → Bor (List ℕ) → Bool
 of_name n k = bytes_eq n k.now

@@ -2,9 +2,9 @@ ghost use Rattle.std.specs.Prelude.{◌≡◌, ℕ, List, [], IfOk, OnOk};
 ghost use Rattle.py_scope.specs.Tables.{class_in, class_with, class_noted, KnowsClasses};
 
 use crate::forms::{is_base, is_method};
-use crate::mention::Mention;
 use crate::words::is_operator;
 use indexmap::IndexMap;
+use py_mentions::Mention;
 use rp_base::NoMemory;
 use std::alloc::Global;
 

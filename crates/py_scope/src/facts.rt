@@ -5,9 +5,9 @@ ghost use Rattle.py_scope.specs.Tables.{Knows};
 use crate::classes::ClassTable;
 use crate::holding::Holding;
 use crate::locals::{LocalFacts, LocalTable};
-use crate::mention::Mention;
 use crate::names::NameTable;
 use py_ast::FunctionInfo;
+use py_mentions::Mention;
 use rp_base::NoMemory;
 use std::alloc::Global;
 
@@ -36,7 +36,11 @@ fn holding_by(facts: LocalFacts) -> Holding
 }
 
 impl<'a> Facts<'a> {
-    pub fn of(alloc: Global, mentions: &'a [Mention], functions: &'a [FunctionInfo]) -> Result<Facts<'a>, NoMemory>
+    pub fn of(
+        alloc: Global,
+        mentions: &'a [Mention],
+        functions: &'a [FunctionInfo],
+    ) -> Result<Facts<'a>, NoMemory>
         ensures mentions { IfOk result (λ f. f.mentions.now ≡ mentions.now) }
         ensures functions { IfOk result (λ f. f.functions.now ≡ functions.now) }
         ensures known { IfOk result (λ f. Knows f) }

@@ -55,7 +55,13 @@ fn texts_of(alloc: Global, names: &[Name]) -> Result<Items<Text>, NoMemory>
 }
 
 /// A function with what it keeps.
-fn with_names(alloc: Global, info: &FunctionInfo, others: &NameSet, free: &NameSet, has_inner: bool) -> Result<FunctionInfo, NoMemory>
+fn with_names(
+    alloc: Global,
+    info: &FunctionInfo,
+    others: &NameSet,
+    free: &NameSet,
+    has_inner: bool,
+) -> Result<FunctionInfo, NoMemory>
     ensures { IfOk result (λ f. f ≡ record info.now { locals = parameter_names info.now ++ others.now; free = free.now; has_inner = has_inner }) }
 {
     let mut locals = texts_of(alloc, info.parameters.as_slice())?;
@@ -73,7 +79,14 @@ fn with_names(alloc: Global, info: &FunctionInfo, others: &NameSet, free: &NameS
 
 impl<'a> Facts<'a> {
     /// The function at this place with what it keeps.
-    fn finished_at(&self, alloc: Global, place: usize, others: &[NameSet<'a>], free: &[NameSet<'a>], parents: &IndexSet<usize>) -> Result<FunctionInfo, NoMemory>
+    fn finished_at(
+        &self,
+        alloc: Global,
+        place: usize,
+        others: &[NameSet<'a>],
+        free: &[NameSet<'a>],
+        parents: &IndexSet<usize>,
+    ) -> Result<FunctionInfo, NoMemory>
         requires within { place < length self.now.functions.now }
         requires others { Each (length self.now.functions.now) (other_locals self.now.mentions.now self.now.mentions.now) others.now }
         requires free { Each (length self.now.functions.now) (free_names self.now.mentions.now self.now.functions.now self.now.mentions.now) free.now }
@@ -101,8 +114,13 @@ impl<'a> Facts<'a> {
         let parents = parents(alloc, self.functions)?;
         let mut finished = Items::new(alloc);
         for place in 0..self.functions.len() {
-            let function =
-                self.finished_at(alloc, place, others.as_slice(), free.as_slice(), &parents)?;
+            let function = self.finished_at(
+                alloc,
+                place,
+                others.as_slice(),
+                free.as_slice(),
+                &parents,
+            )?;
             finished.push(function)?;
         }
         Ok(finished)

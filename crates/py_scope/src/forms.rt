@@ -50,7 +50,10 @@ pub(crate) fn is_nonlocal(form: Form) -> bool
 fn reads(form: Form) -> bool
     ensures { result ≡ reads form }
 {
-    matches!(form, Form::Read | Form::Exception | Form::Raised | Form::Base)
+    matches!(
+        form,
+        Form::Read | Form::Exception | Form::Raised | Form::Base
+    )
 }
 
 /// Whether a `global` or `nonlocal` may not come behind it.

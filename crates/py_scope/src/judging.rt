@@ -7,10 +7,9 @@ ghost use Rattle.py_scope.specs.Rules.{broken_names};
 
 use crate::ending::AcceptEnd;
 use crate::facts::Facts;
-use crate::mention::Mention;
 use crate::scopes::handler_names;
 use py_ast::{FunctionInfo, Program};
-use py_mentions::places;
+use py_mentions::{Mention, places};
 use rp_base::{NoMemory, Refused, Text};
 use sqlite_items::Items;
 use std::alloc::Global;
@@ -24,7 +23,12 @@ struct Settled {
     handler_names: Items<Text>,
 }
 
-fn settled(alloc: Global, program: &Program, mentions: &[Mention], worst: Option<Refused>) -> Result<Settled, NoMemory>
+fn settle(
+    alloc: Global,
+    program: &Program,
+    mentions: &[Mention],
+    worst: Option<Refused>,
+) -> Result<Settled, NoMemory>
     ensures worst { IfOk result (λ s. s.worst ≡ worst_with worst (broken_names mentions.now program.now.functions)) }
     ensures functions { IfOk result (λ s. s.functions ≡ finished_from mentions.now program.now.functions 0 program.now.functions) }
     ensures handlers { IfOk result (λ s. s.handler_names ≡ handler_names mentions.now) }
@@ -43,7 +47,7 @@ pub fn judge(alloc: Global, program: Program) -> Result<Program, AcceptEnd>
     ensures { Judged program result }
 {
     let places = places(alloc, &program)?;
-    let settled = settled(alloc, &program, places.mentions.as_slice(), places.worst)?;
+    let settled = settle(alloc, &program, places.mentions.as_slice(), places.worst)?;
     if let Some(refused) = settled.worst {
         return Err(AcceptEnd::Refused(refused));
     }

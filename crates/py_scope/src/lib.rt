@@ -8,13 +8,16 @@ mod finishing;
 mod forms;
 mod holding;
 mod judging;
+mod laws;
 mod locals;
-mod mention;
 mod name_set;
 mod names;
 mod rules;
 mod scopes;
+#[cfg(test)]
+mod tests;
 mod words;
 
 pub use ending::AcceptEnd;
 pub use judging::judge;
+pub use laws::one_is_first;

@@ -2,9 +2,8 @@ ghost use Rattle.std.specs.Prelude.{◌≡◌, ℕ, List, [], IfOk, OnOk};
 ghost use Rattle.py_scope.specs.Tables.{local_in, local_with, local_noted, KnowsLocals};
 
 use crate::forms::{binds, is_global, is_nonlocal, is_parameter, uses};
-use crate::mention::Mention;
 use indexmap::IndexMap;
-use py_mentions::Form;
+use py_mentions::{Form, Mention};
 use rp_base::NoMemory;
 use std::alloc::Global;
 

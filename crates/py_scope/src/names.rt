@@ -4,8 +4,8 @@ ghost use Rattle.py_scope.specs.Tables.{name_in, name_with, name_noted, lesser, 
 
 use crate::forms::{binds, is_base, is_caught, is_class};
 use crate::locals::LocalTable;
-use crate::mention::Mention;
 use indexmap::IndexMap;
+use py_mentions::Mention;
 use rp_base::NoMemory;
 use std::alloc::Global;
 
@@ -99,7 +99,11 @@ impl<'a> NameTable<'a> {
     }
 
     /// What these mentions say. `locals` says what they say of names in functions.
-    pub fn of(alloc: Global, mentions: &'a [Mention], locals: &LocalTable<'a>) -> Result<NameTable<'a>, NoMemory>
+    pub fn of(
+        alloc: Global,
+        mentions: &'a [Mention],
+        locals: &LocalTable<'a>,
+    ) -> Result<NameTable<'a>, NoMemory>
         requires { KnowsLocals mentions.now locals.now.map }
         ensures { IfOk result (λ t. KnowsNames mentions.now mentions.now t.map) }
     {

@@ -8,9 +8,8 @@ use crate::forms::{
     is_attribute, is_base, is_caught, is_class, is_global, is_nonlocal, is_raised, names_anew,
 };
 use crate::locals::LocalTable;
-use crate::mention::Mention;
 use crate::words::{is_left_out, is_private, is_reserved, is_special};
-use py_mentions::{Form, is_exception, worse};
+use py_mentions::{Form, Mention, is_exception, worse};
 use rp_base::{NoMemory, Refused, Rule};
 use std::alloc::Global;
 
@@ -143,7 +142,12 @@ impl<'a> Facts<'a> {
     }
 
     /// The worst so far, with the rules that this mention breaks.
-    fn judge(&self, worst: Option<Refused>, before: &LocalTable<'a>, mention: &'a Mention) -> Option<Refused>
+    fn judge(
+        &self,
+        worst: Option<Refused>,
+        before: &LocalTable<'a>,
+        mention: &'a Mention,
+    ) -> Option<Refused>
         requires { Knows self.now }
         ensures { (earlier : List Mention) → KnowsLocals earlier before.now.map → result ≡ worst_with worst (breaks self.now.mentions.now self.now.functions.now earlier mention.now) }
     {
@@ -157,7 +161,11 @@ impl<'a> Facts<'a> {
     }
 
     /// The worst so far, with the rules on names that the script breaks.
-    pub fn judge_all(&self, alloc: Global, worst: Option<Refused>) -> Result<Option<Refused>, NoMemory>
+    pub fn judge_all(
+        &self,
+        alloc: Global,
+        worst: Option<Refused>,
+    ) -> Result<Option<Refused>, NoMemory>
         requires { Knows self.now }
         ensures { IfOk result (λ w. w ≡ worst_with worst (broken_names self.now.mentions.now self.now.functions.now)) }
     {

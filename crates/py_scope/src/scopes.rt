@@ -8,8 +8,8 @@ use crate::facts::Facts;
 use crate::forms::{binds, is_caught, looks_up};
 use crate::holding::Holding;
 use crate::locals::LocalFacts;
-use crate::mention::Mention;
 use crate::name_set::{NameSet, empty_sets};
+use py_mentions::Mention;
 use rp_base::NoMemory;
 use std::alloc::Global;
 
@@ -69,7 +69,12 @@ impl<'a> Facts<'a> {
     }
 
     /// Adds the name to the sets of the functions, from this one outwards, that pass it on.
-    fn add_to_passing(&self, sets: &mut Vec<NameSet<'a>>, from: Option<u32>, name: &'a str) -> Result<(), NoMemory>
+    fn add_to_passing(
+        &self,
+        sets: &mut Vec<NameSet<'a>>,
+        from: Option<u32>,
+        name: &'a str,
+    ) -> Result<(), NoMemory>
         requires { Knows self.now }
         ensures { OnOk result (Added (is_among (passing self.now.mentions.now (around self.now.functions.now from) name.now)) name.now sets.old.items sets.new.items) }
     {
@@ -114,7 +119,10 @@ impl<'a> Facts<'a> {
 }
 
 /// The names after `as`, each once, in the order in which the script has them.
-pub(crate) fn handler_names<'a>(alloc: Global, mentions: &'a [Mention]) -> Result<NameSet<'a>, NoMemory>
+pub(crate) fn handler_names<'a>(
+    alloc: Global,
+    mentions: &'a [Mention],
+) -> Result<NameSet<'a>, NoMemory>
     ensures { IfOk result (λ s. s ≡ handler_names mentions.now) }
 {
     let mut names = NameSet::new(alloc);

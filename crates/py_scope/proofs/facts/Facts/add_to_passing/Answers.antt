@@ -47,11 +47,13 @@ loop-step-preserved c =
     let rest : Option ℕ → List ℕ = λ o. passing s.mentions.now (outwards (len - (i + 1)) s.functions.now o) n in
     let one : passing s.mentions.now (outwards (len - i) s.functions.now c.loop-step.here) n ≡ f ∷ rest (parent_of s.functions.now f) =
     pass_step s.mentions.now s.functions.now n c.loop-step.here f len i c.passes.result at within c.passes.ensures
-    ∙ ap (λ b. if b then f ∷ rest (parent_of s.functions.now f) else []) c.if-not-passes.false in
-    (c.in_ok-add_at.ensures.0 ∙ c.loop-step.invariant.0, λ g. c.loop-step.invariant.1 g
-    ∙ ap (λ gs. option_map (added_if (is_among gs g) n) (slice_get c.loop-step.sets.items g)) one
-    ∙ either_added (f == g) (is_among (rest (parent_of s.functions.now f)) g) n (slice_get c.loop-step.sets.items g) (slice_get c.add_at.new.sets.items g) (c.in_ok-add_at.ensures.1 g)
-    ∙ ap (λ o. option_map (added_if (is_among (rest o) g) n) (slice_get c.add_at.new.sets.items g)) (sym c.parent-here.ensures))
+    ∙ ap (λ b. if b then f ∷ rest (parent_of s.functions.now f) else []) c.if-not-passes.false in (
+      c.in_ok-add_at.ensures.0 ∙ c.loop-step.invariant.0,
+      λ g. c.loop-step.invariant.1 g
+          ∙ ap (λ gs. option_map (added_if (is_among gs g) n) (slice_get c.loop-step.sets.items g)) one
+          ∙ either_added (f == g) (is_among (rest (parent_of s.functions.now f)) g) n (slice_get c.loop-step.sets.items g) (slice_get c.add_at.new.sets.items g) (c.in_ok-add_at.ensures.1 g)
+          ∙ ap (λ o. option_map (added_if (is_among (rest o) g) n) (slice_get c.add_at.new.sets.items g)) (sym c.parent-here.ensures),
+    )
 
 pub returns : goal.returns
 returns c =

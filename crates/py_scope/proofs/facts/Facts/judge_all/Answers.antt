@@ -15,9 +15,10 @@ loop-mention-preserved c =
     let ms = c.args.self.now.mentions.now in
     let i = c.loop-mention.mention-index in
     let m = c.mention-item.result in
-    let within : c.loop-mention.mention-index < length c.args.self.now.mentions.now = omega arith in
-    ((λ f n. c.in_ok-note.ensures f n ∙ ap (local_noted m f n) (c.loop-mention.invariant.0 f n) ∙ sym (local_more ms i m m within (sym c.mention-item.is) f n)),
-    c.loop-mention.invariant.1 ∙ breaks_more ms c.args.self.now.functions.now i m m within (sym c.mention-item.is) c.loop-mention.so_far c.judge-so_far.result (c.judge-so_far.ensures (take i ms) c.loop-mention.invariant.0))
+    let within : c.loop-mention.mention-index < length c.args.self.now.mentions.now = omega arith in (
+      (λ f n. c.in_ok-note.ensures f n ∙ ap (local_noted m f n) (c.loop-mention.invariant.0 f n) ∙ sym (local_more ms i m m within (sym c.mention-item.is) f n)),
+      c.loop-mention.invariant.1 ∙ breaks_more ms c.args.self.now.functions.now i m m within (sym c.mention-item.is) c.loop-mention.so_far c.judge-so_far.result (c.judge-so_far.ensures (take i ms) c.loop-mention.invariant.0),
+    )
 
 pub returns : goal.returns
 returns c =
