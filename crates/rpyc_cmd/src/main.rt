@@ -2,11 +2,7 @@
 #![tactic(auto)]
 
 mod decide;
-mod delivery;
-mod messages;
-mod pair;
 mod report;
-mod scripts;
 mod status;
 #[cfg(test)]
 mod tests;
