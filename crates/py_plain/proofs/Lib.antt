@@ -1,0 +1,4 @@
+pub mod Examples
+pub mod PutLaws
+pub mod Stands
+pub mod Weights

@@ -1,0 +1,9 @@
+pub mod Answers
+pub mod Arithmetic
+pub mod Comparing
+pub mod Computing
+pub mod Judging
+pub mod OrderLaws
+pub mod Printing
+pub mod PrintingLaws
+pub mod Putting

@@ -1,0 +1,5 @@
+pub mod Computing
+pub mod Contents
+pub mod Dumping
+pub mod MessageLines
+pub mod Stepping
