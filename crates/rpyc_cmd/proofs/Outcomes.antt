@@ -1,5 +1,5 @@
 -- From what the parts of the program say to what a whole run does.
-use Rattle.std.proofs.Common.{◌≡◌, ℕ, List, Option, sym, subst, inl, inr, ◌⊎◌}
+use Rattle.std.proofs.Common.{◌≡◌, ℕ, List, Option, sym, subst, inl, inr}
 use Rattle.wire_io.specs.Devices.{Rose, Wrote, IsPart}
 use Rattle.pair_run.specs.declared.scripts.Binding.{Binding}
 use Rattle.rpyc_cmd.specs.declared.decide.Decided.{Decided}
@@ -8,9 +8,9 @@ use Rattle.rpyc_cmd.specs.declared.decide.Stop.TheVariants as stop
 use Rattle.rpyc_cmd.specs.declared.status.Status.{Status}
 use Rattle.rpyc_cmd.specs.declared.status.Status.TheVariants as status
 use Rattle.rpyc_cmd.specs.Deciding.{IfRefused, IfNoMemory, RefusesScript, Finished, after_fault}
-use Rattle.rpyc_cmd.specs.Outcome.{Held, Holds, Unbegun, IsRefusal, IsDecided, Outside, Scripts, AreAccepted, PairGives, PairRunsOut, Decides, RunsOut, Ends}
+use Rattle.rpyc_cmd.specs.Outcome.{Held, Holds, Unbegun, IsRefusal, IsDecided, Outside, Scripts, AreAccepted, IsFileRefusal, IsDumped, DumpGives, PairGives, Gives, AskedRunsOut, Decides, RunsOut, Ends}
 use Rattle.rpyc_cmd.specs.Report.{script_line}
-use Rattle.rpyc_cmd.specs.Words.{IsPair}
+use Rattle.rpyc_cmd.specs.Words.{Asked, PairOf, DumpOf, Spells}
 
 pub if_refused : (s : Stop) (P Q : Status → List ℕ → Type 0) → ((decided : Status) (text : List ℕ) → P decided text → Q decided text) → IfRefused P s → IfRefused Q s
 if_refused (stop.Refused d) P Q f h = f d.status d.text h
@@ -39,6 +39,7 @@ pub run_gives : (decided : Status) (name_a name_b : List ℕ) (old new : Outside
     → AreAccepted s.text_a s.text_b letters bindings → IsDecided decided bindings letters text old.wires new.wires → PairGives decided name_a name_b old new text
 run_gives status.Done name_a name_b old new s letters bindings text a h = (s, letters, bindings, a, h)
 run_gives status.Device name_a name_b old new s letters bindings text a h = (s, letters, bindings, a, h)
+run_gives status.Peer name_a name_b old new s letters bindings text a h = absurd h
 run_gives status.Words name_a name_b old new s letters bindings text a h = absurd h
 run_gives status.Script name_a name_b old new s letters bindings text a h = absurd h
 run_gives status.File name_a name_b old new s letters bindings text a h = absurd h
@@ -57,52 +58,85 @@ pub scripts_refused : (stopped : Stop) (name_a name_b : List ℕ) (old new : Out
 scripts_refused stopped name_a name_b old new s same =
     if_refused stopped (RefusesScript (IsRefusal name_a s.text_a name_b s.text_b)) (λ decided text. PairGives decided name_a name_b old new text) (script_gives name_a name_b old new s same)
 
--- what comes of the pair that the words ask for is what the program decides on
-pub pair_decides : (decided : Status) (words : List (List ℕ)) (name_a name_b : List ℕ) (old new : Outside) (text : List ℕ) → IsPair words name_a name_b → PairGives decided name_a name_b old new text
-    → Decides decided words old new text
-pair_decides status.Done words name_a name_b old new text p h = (name_a, name_b, p, h)
-pair_decides status.Device words name_a name_b old new text p h = (name_a, name_b, p, h)
-pair_decides status.Script words name_a name_b old new text p h = (name_a, name_b, p, h)
-pair_decides status.File words name_a name_b old new text p h = (name_a, name_b, p, h)
-pair_decides status.Words words name_a name_b old new text p h = absurd h
-pair_decides status.Output words name_a name_b old new text p h = absurd h
-pair_decides status.NoMemory words name_a name_b old new text p h = absurd h
+-- a file that was not read, or its text, is what comes of a dump
+pub dump_gives : (decided : Status) (file : List ℕ) (old new : Outside) (text : List ℕ) → Unbegun old new → IsDumped decided old.held file text → DumpGives decided file old new text
+dump_gives status.Done file old new text same h = (h, same)
+dump_gives status.Peer file old new text same h = (h, same)
+dump_gives status.Device file old new text same h = absurd h
+dump_gives status.Script file old new text same h = absurd h
+dump_gives status.File file old new text same h = absurd h
+dump_gives status.Words file old new text same h = absurd h
+dump_gives status.Output file old new text same h = absurd h
+dump_gives status.NoMemory file old new text same h = absurd h
 
-pub pair_refused : (stopped : Stop) (d : Decided) (words : List (List ℕ)) (name_a name_b : List ℕ) (old new : Outside) → IsPair words name_a name_b → stopped ≡ stop.Refused d
-    → IfRefused (λ decided text. PairGives decided name_a name_b old new text) stopped → Decides d.status words old new d.text
-pair_refused stopped d words name_a name_b old new p e h =
-    let F : Stop → Type 0 = λ s. IfRefused (λ decided text. PairGives decided name_a name_b old new text) s in
-    pair_decides d.status words name_a name_b old new d.text p (subst F e h)
+pub dump_refused : (stopped : Stop) (file : List ℕ) (old new : Outside) → Unbegun old new
+    → IfRefused (λ decided text. (decided ≡ status.File) × IsFileRefusal old.held file old.file_faults new.file_faults text) stopped → IfRefused (λ decided text. DumpGives decided file old new text) stopped
+dump_refused stopped file old new same =
+    if_refused stopped (λ decided text. (decided ≡ status.File) × IsFileRefusal old.held file old.file_faults new.file_faults text) (λ decided text. DumpGives decided file old new text)
+    (λ decided text h. let F : Status → Type 0 = λ k. DumpGives k file old new text in subst F (sym h.0) (h.1, same))
 
-runs_out : (words : List (List ℕ)) (name_a name_b : List ℕ) (old new : Outside) → IsPair words name_a name_b → Unbegun old new ⊎ PairRunsOut name_a name_b old new → RunsOut words old new
-runs_out words name_a name_b old new p (inl same) = inl same
-runs_out words name_a name_b old new p (inr cut) = inr (name_a, name_b, p, cut)
+-- what comes of what the words ask for is what the program decides on
+no_words : (asked : Asked) (old new : Outside) (text : List ℕ) → Gives status.Words asked old new text → ⊥
+no_words (PairOf name_a name_b) old new text h = h
+no_words (DumpOf file) old new text h = h.0
 
-pub pair_runs_out : (stopped : Stop) (words : List (List ℕ)) (name_a name_b : List ℕ) (old new : Outside) → IsPair words name_a name_b → stopped ≡ stop.NoMemory
-    → IfNoMemory (Unbegun old new ⊎ PairRunsOut name_a name_b old new) stopped → RunsOut words old new
-pair_runs_out stopped words name_a name_b old new p e h =
-    let F : Stop → Type 0 = λ s. IfNoMemory (Unbegun old new ⊎ PairRunsOut name_a name_b old new) s in
-    runs_out words name_a name_b old new p (subst F e h)
+pub asked_decides : (decided : Status) (words : List (List ℕ)) (asked : Asked) (old new : Outside) (text : List ℕ) → Spells words asked → Gives decided asked old new text → Decides decided words old new text
+asked_decides status.Done words asked old new text p h = (asked, p, h)
+asked_decides status.Peer words asked old new text p h = (asked, p, h)
+asked_decides status.Device words asked old new text p h = (asked, p, h)
+asked_decides status.Script words asked old new text p h = (asked, p, h)
+asked_decides status.File words asked old new text p h = (asked, p, h)
+asked_decides status.Words words asked old new text p h = absurd (no_words asked old new text h)
+asked_decides status.Output words asked old new text p h = (asked, p, h)
+asked_decides status.NoMemory words asked old new text p h = (asked, p, h)
+
+pub asked_refused : (stopped : Stop) (d : Decided) (words : List (List ℕ)) (asked : Asked) (old new : Outside) → Spells words asked → stopped ≡ stop.Refused d
+    → IfRefused (λ decided text. Gives decided asked old new text) stopped → Decides d.status words old new d.text
+asked_refused stopped d words asked old new p e h =
+    let F : Stop → Type 0 = λ s. IfRefused (λ decided text. Gives decided asked old new text) s in
+    asked_decides d.status words asked old new d.text p (subst F e h)
+
+runs_out : (words : List (List ℕ)) (asked : Asked) (old new : Outside) → Spells words asked → AskedRunsOut asked old new → RunsOut words old new
+runs_out words (PairOf name_a name_b) old new p (inl same) = inl same
+runs_out words (PairOf name_a name_b) old new p (inr cut) = inr (name_a, name_b, p, cut)
+runs_out words (DumpOf file) old new p same = inl same
+
+pub asked_runs_out : (stopped : Stop) (words : List (List ℕ)) (asked : Asked) (old new : Outside) → Spells words asked → stopped ≡ stop.NoMemory
+    → IfNoMemory (AskedRunsOut asked old new) stopped → RunsOut words old new
+asked_runs_out stopped words asked old new p e h =
+    let F : Stop → Type 0 = λ s. IfNoMemory (AskedRunsOut asked old new) s in
+    runs_out words asked old new p (subst F e h)
+
+-- no status of what the writing alone makes is decided on
+no_output : (words : List (List ℕ)) (asked : Asked) (old new : Outside) (text : List ℕ) → Gives status.Output asked old new text → ⊥
+no_output words (PairOf name_a name_b) old new text h = h
+no_output words (DumpOf file) old new text h = h.0
+
+no_no_memory : (words : List (List ℕ)) (asked : Asked) (old new : Outside) (text : List ℕ) → Gives status.NoMemory asked old new text → ⊥
+no_no_memory words (PairOf name_a name_b) old new text h = h
+no_no_memory words (DumpOf file) old new text h = h.0
 
 ends_whole : (decided : Status) (words : List (List ℕ)) (old new : Outside) (text : List ℕ) (told : Option (List ℕ)) (faults : ℕ) (told_new : Option (List ℕ)) (faults_new : ℕ)
     → Decides decided words old new text → Wrote told text told_new → Ends decided words old new told faults told_new faults_new
 ends_whole status.Done words old new text told faults told_new faults_new d w = (text, d, w)
 ends_whole status.Device words old new text told faults told_new faults_new d w = (text, d, inl w)
+ends_whole status.Peer words old new text told faults told_new faults_new d w = (text, d, inl w)
 ends_whole status.Words words old new text told faults told_new faults_new d w = (text, d, inl w)
 ends_whole status.Script words old new text told faults told_new faults_new d w = (text, d, inl w)
 ends_whole status.File words old new text told faults told_new faults_new d w = (text, d, inl w)
-ends_whole status.Output words old new text told faults told_new faults_new d w = absurd d.3
-ends_whole status.NoMemory words old new text told faults told_new faults_new d w = absurd d.3
+ends_whole status.Output words old new text told faults told_new faults_new d w = absurd (no_output words d.0 old new text d.2)
+ends_whole status.NoMemory words old new text told faults told_new faults_new d w = absurd (no_no_memory words d.0 old new text d.2)
 
 ends_cut : (decided : Status) (words : List (List ℕ)) (old new : Outside) (text : List ℕ) (told : Option (List ℕ)) (faults : ℕ) (told_new : Option (List ℕ)) (faults_new : ℕ)
     → Decides decided words old new text → Rose faults faults_new → IsPart told text told_new → Ends (after_fault decided) words old new told faults told_new faults_new
 ends_cut status.Done words old new text told faults told_new faults_new d r p = (text, d, r, p)
 ends_cut status.Device words old new text told faults told_new faults_new d r p = (text, d, inr (r, p))
+ends_cut status.Peer words old new text told faults told_new faults_new d r p = (text, d, inr (r, p))
 ends_cut status.Words words old new text told faults told_new faults_new d r p = (text, d, inr (r, p))
 ends_cut status.Script words old new text told faults told_new faults_new d r p = (text, d, inr (r, p))
 ends_cut status.File words old new text told faults told_new faults_new d r p = (text, d, inr (r, p))
-ends_cut status.Output words old new text told faults told_new faults_new d r p = absurd d.3
-ends_cut status.NoMemory words old new text told faults told_new faults_new d r p = absurd d.3
+ends_cut status.Output words old new text told faults told_new faults_new d r p = absurd (no_output words d.0 old new text d.2)
+ends_cut status.NoMemory words old new text told faults told_new faults_new d r p = absurd (no_no_memory words d.0 old new text d.2)
 
 -- a text that was decided on, and its writing, make a run
 pub run_ends : (decided ended : Status) (words : List (List ℕ)) (old new : Outside) (text : List ℕ) (told : Option (List ℕ)) (faults : ℕ) (told_new : Option (List ℕ)) (faults_new : ℕ)

@@ -7,9 +7,11 @@ use Rattle.pair_run.specs.declared.scripts.Binding.{Binding}
 use Rattle.pair_run.specs.Running.{Wires, wires, IsUnrun, IsWholeRun, IsPartRun, IsCutRun, HasFailed}
 use Rattle.pair_run.specs.Scripts.{AsksFor, Binds, IsFirstOtherQuestion, IsFirstOtherBinding, IsFirstUnbound, number_of}
 use Rattle.pair_run.specs.Talk.{printed, units_of}
+use Rattle.message_core.specs.declared.faults.PeerFault.{PeerFault}
+use Rattle.report_text.specs.Dumping.{dump_text, dump_fault}
 use Rattle.rpyc_cmd.specs.declared.status.Status.{Status}
 use Rattle.rpyc_cmd.specs.declared.status.Status.TheVariants as status
-use Rattle.rpyc_cmd.specs.Words.{IsPair, IsRefusedAt}
+use Rattle.rpyc_cmd.specs.Words.{IsPair, Asked, PairOf, DumpOf, Spells, IsRefusedAt}
 use Rattle.rpyc_cmd.specs.Report.{report, words_line, script_line, not_there_line, read_fault_line}
 
 -- a map from names to bytes, where the files tell it
@@ -99,15 +101,39 @@ PairGives status.File name_a name_b old new text = Unbegun old new
     ⊎ ((text_a : List ℕ) × Holds old.held name_a text_a × IsFileRefusal old.held name_b old.file_faults new.file_faults text))
 PairGives decided name_a name_b old new text = ⊥
 
+-- a file was read whose frames have this first fault, or none, and this text
+abbrev pub Dumps : Held → List ℕ → Option PeerFault → List ℕ → Type 0
+Dumps held file fault text = (bytes : List ℕ) × Holds held file bytes × (dump_fault bytes ≡ fault) × (text ≡ dump_text bytes)
+
+abbrev pub IsDumped : Status → Held → List ℕ → List ℕ → Type 0
+IsDumped status.Done held file text = Dumps held file None text
+IsDumped status.Peer held file text = (fault : PeerFault) × Dumps held file (Some fault) text
+IsDumped decided held file text = ⊥
+
+-- What comes of a file of frames of this name. No wire is begun.
+abbrev pub DumpGives : Status → List ℕ → Outside → Outside → List ℕ → Type 0
+DumpGives status.File file old new text = IsFileRefusal old.held file old.file_faults new.file_faults text × Unbegun old new
+DumpGives decided file old new text = IsDumped decided old.held file text × Unbegun old new
+
+-- what comes of what was asked for
+abbrev pub Gives : Status → Asked → Outside → Outside → List ℕ → Type 0
+Gives decided (PairOf name_a name_b) old new text = PairGives decided name_a name_b old new text
+Gives decided (DumpOf file) old new text = DumpGives decided file old new text
+
 -- What the program decides on before it writes: a status and a text.
 abbrev pub Decides : Status → List (List ℕ) → Outside → Outside → List ℕ → Type 0
 Decides status.Words words old new text = (at : ℕ) × IsRefusedAt words at × (text ≡ words_line at) × Unbegun old new × (new.file_faults ≡ old.file_faults)
-Decides decided words old new text = (name_a : List ℕ) × (name_b : List ℕ) × IsPair words name_a name_b × PairGives decided name_a name_b old new text
+Decides decided words old new text = (asked : Asked) × Spells words asked × Gives decided asked old new text
 
 -- memory ran out while two scripts were run
 abbrev pub PairRunsOut : List ℕ → List ℕ → Outside → Outside → Type 0
 PairRunsOut name_a name_b old new =
     (s : Scripts name_a name_b old.held) × (letters : List ℕ) × (bindings : List Binding) × AreAccepted s.text_a s.text_b letters bindings × IsCutRun bindings letters old.wires new.wires
+
+-- memory ran out in what was asked for: the wires were not touched, or a run was cut short
+abbrev pub AskedRunsOut : Asked → Outside → Outside → Type 0
+AskedRunsOut (PairOf name_a name_b) old new = Unbegun old new ⊎ PairRunsOut name_a name_b old new
+AskedRunsOut (DumpOf file) old new = Unbegun old new
 
 -- Memory ran out before there was a text: the wires were not touched, or a run was cut short.
 abbrev pub RunsOut : List (List ℕ) → Outside → Outside → Type 0

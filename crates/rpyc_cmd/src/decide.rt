@@ -2,14 +2,15 @@ ghost use Rattle.std.specs.Prelude.{◌≡◌, ◌≤◌, ℕ, map, IfOk, OnOk, 
 ghost use Rattle.pair_run.specs.Running.{AreJoined, IsCutRun, wires};
 ghost use Rattle.pair_run.specs.Scripts.{AsksFor, Binds, IsFirstOtherQuestion, IsFirstOtherBinding, IsFirstUnbound, IsLetter, IsBinding, number_of};
 ghost use Rattle.rpyc_cmd.specs.Deciding.{IfRefused, IfNoMemory, RefusesScript, Finished};
-ghost use Rattle.rpyc_cmd.specs.Outcome.{Holds, IsFileRefusal, IsRefusal, AreAccepted, IsDecided, PairGives, PairRunsOut, Decides, RunsOut, Ends, outside, Unbegun};
+ghost use Rattle.rpyc_cmd.specs.Outcome.{Holds, IsFileRefusal, IsRefusal, AreAccepted, IsDecided, IsDumped, PairGives, PairRunsOut, Gives, AskedRunsOut, Decides, RunsOut, Ends, outside, Unbegun};
 ghost use Rattle.rpyc_cmd.specs.Report.{script_line};
-ghost use Rattle.rpyc_cmd.specs.Words.{IsPair};
+ghost use Rattle.rpyc_cmd.specs.Words.{asked_by};
 
 use crate::report::{not_there_text, pair_report, read_fault_text, script_text, words_text};
 use crate::status::Status;
-use crate::words::command;
+use crate::words::{Command, read_words};
 use pair_run::{Binding, PairScripts, RunEnd, ScriptEnd, bindings, questions, run_pair};
+use report_text::{Dump, dump};
 use rp_base::{Blob, NoMemory, Text};
 use std::alloc::Global;
 use wire_io::{FileAnswer, Files, Sink, Wire, WireEnd, write_all};
@@ -186,6 +187,46 @@ fn decide_pair<F: Files, W: Wire>(
     }
 }
 
+/// Reads a file of frames, and writes them as text.
+fn decide_dump<F: Files>(alloc: Global, name: &str, files: &mut F) -> Result<Decided, Stop>
+    ensures decided { IfOk result (λ d. IsDumped d.status (F.held files.old) name.now d.text) }
+    ensures refused { IfErr result (IfRefused (λ decided text. (decided ≡ Status.File)
+        × IsFileRefusal (F.held files.old) name.now (F.fault_count files.old) (F.fault_count files.new) text)) }
+    ensures kept { F.held files.new ≡ F.held files.old }
+{
+    let bytes = read_file(alloc, name, files)?;
+    let Dump { text, fault } = dump(alloc, bytes.as_slice())?;
+    match fault {
+        None => Ok(Decided {
+            status: Status::Done,
+            text,
+        }),
+        Some(_) => Ok(Decided {
+            status: Status::Peer,
+            text,
+        }),
+    }
+}
+
+/// Does what a command asks for.
+fn decide_command<F: Files, W: Wire>(
+    alloc: Global,
+    command: Command<'_>,
+    files: &mut F,
+    ab: &mut W,
+    ba: &mut W,
+) -> Result<Decided, Stop>
+    ensures decided { IfOk result (λ d. Gives d.status (asked_by command.entry) (outside F.held F.fault_count W.carried W.begun W.fault_count files.old ab.old ba.old) (outside F.held F.fault_count W.carried W.begun W.fault_count files.new ab.new ba.new) d.text) }
+    ensures refused { IfErr result (IfRefused (λ decided text. Gives decided (asked_by command.entry) (outside F.held F.fault_count W.carried W.begun W.fault_count files.old ab.old ba.old) (outside F.held F.fault_count W.carried W.begun W.fault_count files.new ab.new ba.new) text)) }
+    ensures cut { IfErr result (IfNoMemory (AskedRunsOut (asked_by command.entry) (outside F.held F.fault_count W.carried W.begun W.fault_count files.old ab.old ba.old) (outside F.held F.fault_count W.carried W.begun W.fault_count files.new ab.new ba.new))) }
+    ensures kept { F.held files.new ≡ F.held files.old }
+{
+    match command {
+        Command::Pair { a, b } => decide_pair(alloc, a, b, files, ab, ba),
+        Command::Dump { file } => decide_dump(alloc, file, files),
+    }
+}
+
 /// What the program decides on before it writes.
 fn decide<F: Files, W: Wire>(
     alloc: Global,
@@ -198,8 +239,8 @@ fn decide<F: Files, W: Wire>(
     ensures cut { OnErr result (RunsOut (map string_bytes words.now) (outside F.held F.fault_count W.carried W.begun W.fault_count files.old ab.old ba.old) (outside F.held F.fault_count W.carried W.begun W.fault_count files.new ab.new ba.new)) }
     ensures kept { F.held files.new ≡ F.held files.old }
 {
-    match command(words) {
-        Ok(pair) => match decide_pair(alloc, pair.a, pair.b, files, ab, ba) {
+    match read_words(words) {
+        Ok(command) => match decide_command(alloc, command, files, ab, ba) {
             Ok(decided) => Ok(decided),
             Err(Stop::Refused(decided)) => Ok(decided),
             Err(Stop::NoMemory) => Err(NoMemory),
@@ -225,7 +266,7 @@ fn finish<K: Sink>(decided: &Decided, out: &mut K) -> Status
     }
 }
 
-/// All that the program does: reads the words, runs the pair, and writes what came of it.
+/// All that the program does: reads the words, runs the pair or reads the frames, and writes what came of it.
 ///
 /// Everything that is written goes to `out`. The two wires are those from A to B and from B to A; they are begun in
 /// this order, after all refusals and before the run.

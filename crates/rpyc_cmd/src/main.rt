@@ -1,4 +1,5 @@
-//! The program `rpyc`: runs two scripts as a pair over two byte wires, and reports what they did.
+//! The program `rpyc`: runs two scripts as a pair over two byte wires and reports what they did, or writes a file of
+//! frames as text.
 #![tactic(auto)]
 
 mod decide;

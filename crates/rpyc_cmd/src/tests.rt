@@ -194,6 +194,49 @@ fn words_and_files(rt: HostRuntime) -> Result<(), Fail> {
     Ok(())
 }
 
+/// A frame that asks for the root.
+const ROOT: &[u8] = b"\x00\x00\x00\x08\x00\x12\x51\x50\x11\x53\x11\x51\x02\x0a";
+
+/// The same, and a frame whose data are compressed.
+const COMPRESSED: &[u8] =
+    b"\x00\x00\x00\x08\x00\x12\x51\x50\x11\x53\x11\x51\x02\x0a\x00\x00\x00\x01\x01";
+
+/// The words, the status of their run, and what it writes.
+type Call = (&'static [&'static str], Status, &'static str);
+
+#[test]
+fn files_of_frames(rt: HostRuntime) -> Result<(), Fail> {
+    let alloc = rt.alloc();
+    let calls: [Call; 6] = [
+        (
+            &["dump", "a.py"],
+            Status::Done,
+            "request 0 GETROOT (1, ())\n",
+        ),
+        (
+            &["dump", "b.py"],
+            Status::Peer,
+            "request 0 GETROOT (1, ())\nfault F2 18\n",
+        ),
+        (&["dump", "gone"], Status::File, "rpyc: gone not there\n"),
+        (&["dump"], Status::Words, "rpyc: words at 1\n"),
+        (
+            &["dump", "a.py", "b.py"],
+            Status::Words,
+            "rpyc: words at 2\n",
+        ),
+        (&["show", "a.py"], Status::Words, "rpyc: words at 0\n"),
+    ];
+    for (words, status, text) in calls {
+        let mut devices = make_devices(alloc, ROOT, COMPRESSED)?;
+        let ended = run(alloc, words, &mut devices)?;
+        assert_eq!(rt; ended, status);
+        assert_eq!(rt; devices.out.taken(), text.as_bytes());
+        assert!(rt; devices.ab.begun().is_none() && devices.ba.begun().is_none());
+    }
+    Ok(())
+}
+
 #[test]
 fn devices_that_fail(rt: HostRuntime) -> Result<(), Fail> {
     let alloc = rt.alloc();
