@@ -1,10 +1,2 @@
-pub mod Asking
-pub mod Delivering
-pub mod Items
-pub mod LastBindings
-pub mod Lines
-pub mod Numbers
 pub mod Outcomes
-pub mod Sendable
-pub mod Traffic
 pub mod WordsLaws

@@ -1,99 +1,142 @@
 -- From what the parts of the program say to what a whole run does.
-use Rattle.std.proofs.Common.{◌≡◌, ◌∙◌, ap, pos, ℕ, ◌-◌, ◌<◌, ◌≤◌, List, [], ◌∷◌, Option, Some, None, Bool, true, false, sym, refl, subst, inl, inr, All, length, get_or, suc, arith, cond, reverse, find, unwrap_or, option_map, ◌==◌, string_bytes}
-use Rattle.std.proofs.lemmas.List.{get_or-reverse, length-reverse, length-map}
+use Rattle.std.proofs.Common.{◌≡◌, ℕ, List, Option, sym, subst, inl, inr}
 use Rattle.wire_io.specs.Devices.{Rose, Wrote, IsPart}
+use Rattle.pair_run.specs.declared.scripts.Binding.{Binding}
 use Rattle.rpyc_cmd.specs.declared.decide.Decided.{Decided}
 use Rattle.rpyc_cmd.specs.declared.decide.Stop.{Stop}
 use Rattle.rpyc_cmd.specs.declared.decide.Stop.TheVariants as stop
-use Rattle.rpyc_cmd.specs.declared.scripts.Binding.{Binding}
 use Rattle.rpyc_cmd.specs.declared.status.Status.{Status}
 use Rattle.rpyc_cmd.specs.declared.status.Status.TheVariants as status
-use Rattle.rpyc_cmd.specs.Deciding.{IfRefused, IfNoMemory, IsDecided, Finished, after_fault}
-use Rattle.rpyc_cmd.specs.Outcome.{Held, Holds, Unbegun, IsRefusal, Outside, Scripts, AreAccepted, Decides, Ends}
-use Rattle.rpyc_cmd.specs.Scripts.{IsBinding, IsNumber, AsksFor, Binds, IsFirstUnbound, lines_of, onto_first, question_line, longest_text}
+use Rattle.rpyc_cmd.specs.Deciding.{IfRefused, IfNoMemory, RefusesScript, Finished, after_fault}
+use Rattle.rpyc_cmd.specs.Outcome.{Held, Holds, Unbegun, IsRefusal, IsDecided, Outside, Scripts, AreAccepted, IsFileRefusal, IsDumped, DumpGives, PairGives, Gives, AskedRunsOut, Decides, RunsOut, Ends}
 use Rattle.rpyc_cmd.specs.Report.{script_line}
-use Rattle.rpyc_cmd.specs.Words.{IsPair}
-use Rattle.rpyc_cmd.specs.Talk.{AreAnswered, value_of}
+use Rattle.rpyc_cmd.specs.Words.{Asked, PairOf, DumpOf, Spells}
 
-pub if_refused : (s : Stop) (P Q : Decided → Type 0) → ((d : Decided) → P d → Q d) → IfRefused s P → IfRefused s Q
-if_refused (stop.Refused d) P Q f h = f d h
+pub if_refused : (s : Stop) (P Q : Status → List ℕ → Type 0) → ((decided : Status) (text : List ℕ) → P decided text → Q decided text) → IfRefused P s → IfRefused Q s
+if_refused (stop.Refused d) P Q f h = f d.status d.text h
 if_refused stop.NoMemory P Q f h = tt
 
--- what is found is one of the list
-found_at : {X : Type 0} (b : Bool) (P : X → Type 0) (x y : X) (o : Option X) → P x → (o ≡ Some y → P y) → cond b (Some x) o ≡ Some y → P y
-found_at true P x y o h k e = let same : x ≡ y = cc in subst P same h
-found_at false P x y o h k e = k e
+pub refused_by : (s : Stop) (C D : List ℕ → ℕ → Type 0) → ((name : List ℕ) (line : ℕ) → C name line → D name line) → IfRefused (RefusesScript C) s → IfRefused (RefusesScript D) s
+refused_by s C D f = if_refused s (RefusesScript C) (RefusesScript D) (λ decided text h. (h.0, (h.1.0, h.1.1, f h.1.0 h.1.1 h.1.2, h.1.3)))
 
-tail_all : {X : Type 0} (P : X → Type 0) (x : X) (xs : List X) → All P (x ∷ xs) → All P xs
-tail_all P x xs h = λ k d l. h (suc k) d (omega arith)
+-- a refusal at a line, with its cause
+pub refused_at : (s : Stop) (C : List ℕ → ℕ → Type 0) (name : List ℕ) (line : ℕ) → C name line → IfRefused (λ decided text. (decided ≡ status.Script) × (text ≡ script_line name line)) s → IfRefused (RefusesScript C) s
+refused_at s C name line cause =
+    if_refused s (λ decided text. (decided ≡ status.Script) × (text ≡ script_line name line)) (RefusesScript C) (λ decided text h. (h.0, (name, line, cause, h.1)))
 
-found_in : {X : Type 0} (P : X → Type 0) (p : X → Bool) (xs : List X) (y : X) → All P xs → find p xs ≡ Some y → P y
-found_in P p [] y h e = cc
-found_in P p (x ∷ xs) y h e = found_at (p x) P x y (find p xs) (h 0 x (omega arith)) (found_in P p xs y (tail_all P x xs h)) e
+-- both files were read
+abbrev pub scripts_of : (held held_later : Held) (name_a name_b bytes_a text_a bytes_b text_b : List ℕ) → Holds held name_a bytes_a → text_a ≡ bytes_a
+    → held_later ≡ held → Holds held_later name_b bytes_b → text_b ≡ bytes_b → Scripts name_a name_b held
+scripts_of held held_later name_a name_b bytes_a text_a bytes_b text_b a e kept b f = record {
+  text_a = text_a;
+  text_b = text_b;
+  read_a = subst (Holds held name_a) (sym e) a;
+  read_b = subst (Holds held name_b) (sym f) (subst (λ h. Holds h name_b bytes_b) kept b);
+}
 
-reversed_all : {X : Type 0} (P : X → Type 0) (xs : List X) → All P xs → All P (reverse xs)
-reversed_all P xs h = λ k d l.
-    let within : k < length xs = omega (arith, l, length-reverse xs) in
-    subst P (sym (get_or-reverse xs k d within)) (h (length xs - 1 - k) d (omega arith))
+-- what a run decides on is what comes of the pair
+pub run_gives : (decided : Status) (name_a name_b : List ℕ) (old new : Outside) (s : Scripts name_a name_b old.held) (letters : List ℕ) (bindings : List Binding) (text : List ℕ)
+    → AreAccepted s.text_a s.text_b letters bindings → IsDecided decided bindings letters text old.wires new.wires → PairGives decided name_a name_b old new text
+run_gives status.Done name_a name_b old new s letters bindings text a h = (s, letters, bindings, a, h)
+run_gives status.Device name_a name_b old new s letters bindings text a h = (s, letters, bindings, a, h)
+run_gives status.Peer name_a name_b old new s letters bindings text a h = absurd h
+run_gives status.Words name_a name_b old new s letters bindings text a h = absurd h
+run_gives status.Script name_a name_b old new s letters bindings text a h = absurd h
+run_gives status.File name_a name_b old new s letters bindings text a h = absurd h
+run_gives status.Output name_a name_b old new s letters bindings text a h = absurd h
+run_gives status.NoMemory name_a name_b old new s letters bindings text a h = absurd h
 
-number_of_binding : (o : Option Binding) → ((b : Binding) → o ≡ Some b → IsBinding b) → IsNumber (unwrap_or (option_map (λ b. b.number) o) (pos 0))
-number_of_binding None h = (0, refl, omega arith)
-number_of_binding (Some b) h = (h b refl).1
+-- the refusal of a script is what comes of the pair
+script_gives : (name_a name_b : List ℕ) (old new : Outside) (s : Scripts name_a name_b old.held) → Unbegun old new → (decided : Status) (text : List ℕ)
+    → RefusesScript (IsRefusal name_a s.text_a name_b s.text_b) decided text → PairGives decided name_a name_b old new text
+script_gives name_a name_b old new s same decided text h =
+    let F : Status → Type 0 = λ k. PairGives k name_a name_b old new text in
+    subst F (sym h.0) (s, h.1.0, h.1.1, h.1.2, h.1.3, same)
 
-pub bound_number : (bindings : List Binding) (letter : ℕ) → All IsBinding bindings → IsNumber (value_of bindings letter)
-bound_number bindings letter h =
-    number_of_binding (find (λ b. b.letter == letter) (reverse bindings)) (λ b. found_in IsBinding (λ b. b.letter == letter) (reverse bindings) b (reversed_all IsBinding bindings h))
+pub scripts_refused : (stopped : Stop) (name_a name_b : List ℕ) (old new : Outside) (s : Scripts name_a name_b old.held) → Unbegun old new
+    → IfRefused (RefusesScript (IsRefusal name_a s.text_a name_b s.text_b)) stopped → IfRefused (λ decided text. PairGives decided name_a name_b old new text) stopped
+scripts_refused stopped name_a name_b old new s same =
+    if_refused stopped (RefusesScript (IsRefusal name_a s.text_a name_b s.text_b)) (λ decided text. PairGives decided name_a name_b old new text) (script_gives name_a name_b old new s same)
 
-line_more : (t : Bool) (c : ℕ) (lines : List (List ℕ)) (n : ℕ) → length lines ≤ n → length (cond t ([] ∷ lines) (onto_first c lines)) ≤ suc n
-line_more true c lines n h = omega arith
-line_more false c [] n h = omega arith
-line_more false c (line ∷ lines) n h = omega (arith, h)
+-- a file that was not read, or its text, is what comes of a dump
+pub dump_gives : (decided : Status) (file : List ℕ) (old new : Outside) (text : List ℕ) → Unbegun old new → IsDumped decided old.held file text → DumpGives decided file old new text
+dump_gives status.Done file old new text same h = (h, same)
+dump_gives status.Peer file old new text same h = (h, same)
+dump_gives status.Device file old new text same h = absurd h
+dump_gives status.Script file old new text same h = absurd h
+dump_gives status.File file old new text same h = absurd h
+dump_gives status.Words file old new text same h = absurd h
+dump_gives status.Output file old new text same h = absurd h
+dump_gives status.NoMemory file old new text same h = absurd h
 
--- a text has no more lines than bytes
-few_lines : (text : List ℕ) → length (lines_of text) ≤ length text
-few_lines [] = omega arith
-few_lines (c ∷ text) = line_more (c == 10) c (lines_of text) (length text) (few_lines text)
+pub dump_refused : (stopped : Stop) (file : List ℕ) (old new : Outside) → Unbegun old new
+    → IfRefused (λ decided text. (decided ≡ status.File) × IsFileRefusal old.held file old.file_faults new.file_faults text) stopped → IfRefused (λ decided text. DumpGives decided file old new text) stopped
+dump_refused stopped file old new same =
+    if_refused stopped (λ decided text. (decided ≡ status.File) × IsFileRefusal old.held file old.file_faults new.file_faults text) (λ decided text. DumpGives decided file old new text)
+    (λ decided text h. let F : Status → Type 0 = λ k. DumpGives k file old new text in subst F (sym h.0) (h.1, same))
 
-few_letters : (text letters : List ℕ) → AsksFor text letters → length letters ≤ longest_text
-few_letters text letters h =
-    let same : length (lines_of text) ≡ length letters = ap length h.spelled ∙ length-map letters question_line in
-    omega (arith, same, few_lines text, h.short)
+-- what comes of what the words ask for is what the program decides on
+no_words : (asked : Asked) (old new : Outside) (text : List ℕ) → Gives status.Words asked old new text → ⊥
+no_words (PairOf name_a name_b) old new text h = h
+no_words (DumpOf file) old new text h = h.0
 
-pub are_answered : (text_a text_b letters : List ℕ) (bindings : List Binding) → AreAccepted text_a text_b letters bindings → AreAnswered bindings letters
-are_answered text_a text_b letters bindings h =
-    (λ k d l. (h.asks.lower_case k d l, h.bound k d l, bound_number bindings (get_or letters k d) h.binds.in_range), few_letters text_a letters h.asks)
+pub asked_decides : (decided : Status) (words : List (List ℕ)) (asked : Asked) (old new : Outside) (text : List ℕ) → Spells words asked → Gives decided asked old new text → Decides decided words old new text
+asked_decides status.Done words asked old new text p h = (asked, p, h)
+asked_decides status.Peer words asked old new text p h = (asked, p, h)
+asked_decides status.Device words asked old new text p h = (asked, p, h)
+asked_decides status.Script words asked old new text p h = (asked, p, h)
+asked_decides status.File words asked old new text p h = (asked, p, h)
+asked_decides status.Words words asked old new text p h = absurd (no_words asked old new text h)
+asked_decides status.Output words asked old new text p h = (asked, p, h)
+asked_decides status.NoMemory words asked old new text p h = (asked, p, h)
 
--- what a run decides on is what the program decides on
-pub run_decides : (decided : Status) (words : List (List ℕ)) (old new : Outside) (s : Scripts words old.held) (letters : List ℕ) (bindings : List Binding) (text : List ℕ)
-    → AreAccepted s.text_a s.text_b letters bindings → IsDecided decided bindings letters text old.ab new.ab old.ba new.ba
-    → Decides decided words old new text
-run_decides status.Done words old new s letters bindings text a h = (s, letters, bindings, a, h.0, h.1, h.2)
-run_decides status.Device words old new s letters bindings text a h = (s, letters, bindings, a, h.0, h.1)
-run_decides status.Words words old new s letters bindings text a h = absurd h
-run_decides status.Script words old new s letters bindings text a h = absurd h
-run_decides status.File words old new s letters bindings text a h = absurd h
-run_decides status.Output words old new s letters bindings text a h = absurd h
-run_decides status.NoMemory words old new s letters bindings text a h = absurd h
+pub asked_refused : (stopped : Stop) (d : Decided) (words : List (List ℕ)) (asked : Asked) (old new : Outside) → Spells words asked → stopped ≡ stop.Refused d
+    → IfRefused (λ decided text. Gives decided asked old new text) stopped → Decides d.status words old new d.text
+asked_refused stopped d words asked old new p e h =
+    let F : Stop → Type 0 = λ s. IfRefused (λ decided text. Gives decided asked old new text) s in
+    asked_decides d.status words asked old new d.text p (subst F e h)
+
+runs_out : (words : List (List ℕ)) (asked : Asked) (old new : Outside) → Spells words asked → AskedRunsOut asked old new → RunsOut words old new
+runs_out words (PairOf name_a name_b) old new p (inl same) = inl same
+runs_out words (PairOf name_a name_b) old new p (inr cut) = inr (name_a, name_b, p, cut)
+runs_out words (DumpOf file) old new p same = inl same
+
+pub asked_runs_out : (stopped : Stop) (words : List (List ℕ)) (asked : Asked) (old new : Outside) → Spells words asked → stopped ≡ stop.NoMemory
+    → IfNoMemory (AskedRunsOut asked old new) stopped → RunsOut words old new
+asked_runs_out stopped words asked old new p e h =
+    let F : Stop → Type 0 = λ s. IfNoMemory (AskedRunsOut asked old new) s in
+    runs_out words asked old new p (subst F e h)
+
+-- no status of what the writing alone makes is decided on
+no_output : (words : List (List ℕ)) (asked : Asked) (old new : Outside) (text : List ℕ) → Gives status.Output asked old new text → ⊥
+no_output words (PairOf name_a name_b) old new text h = h
+no_output words (DumpOf file) old new text h = h.0
+
+no_no_memory : (words : List (List ℕ)) (asked : Asked) (old new : Outside) (text : List ℕ) → Gives status.NoMemory asked old new text → ⊥
+no_no_memory words (PairOf name_a name_b) old new text h = h
+no_no_memory words (DumpOf file) old new text h = h.0
 
 ends_whole : (decided : Status) (words : List (List ℕ)) (old new : Outside) (text : List ℕ) (told : Option (List ℕ)) (faults : ℕ) (told_new : Option (List ℕ)) (faults_new : ℕ)
     → Decides decided words old new text → Wrote told text told_new → Ends decided words old new told faults told_new faults_new
 ends_whole status.Done words old new text told faults told_new faults_new d w = (text, d, w)
 ends_whole status.Device words old new text told faults told_new faults_new d w = (text, d, inl w)
+ends_whole status.Peer words old new text told faults told_new faults_new d w = (text, d, inl w)
 ends_whole status.Words words old new text told faults told_new faults_new d w = (text, d, inl w)
 ends_whole status.Script words old new text told faults told_new faults_new d w = (text, d, inl w)
 ends_whole status.File words old new text told faults told_new faults_new d w = (text, d, inl w)
-ends_whole status.Output words old new text told faults told_new faults_new d w = absurd d
-ends_whole status.NoMemory words old new text told faults told_new faults_new d w = absurd d
+ends_whole status.Output words old new text told faults told_new faults_new d w = absurd (no_output words d.0 old new text d.2)
+ends_whole status.NoMemory words old new text told faults told_new faults_new d w = absurd (no_no_memory words d.0 old new text d.2)
 
 ends_cut : (decided : Status) (words : List (List ℕ)) (old new : Outside) (text : List ℕ) (told : Option (List ℕ)) (faults : ℕ) (told_new : Option (List ℕ)) (faults_new : ℕ)
     → Decides decided words old new text → Rose faults faults_new → IsPart told text told_new → Ends (after_fault decided) words old new told faults told_new faults_new
 ends_cut status.Done words old new text told faults told_new faults_new d r p = (text, d, r, p)
 ends_cut status.Device words old new text told faults told_new faults_new d r p = (text, d, inr (r, p))
+ends_cut status.Peer words old new text told faults told_new faults_new d r p = (text, d, inr (r, p))
 ends_cut status.Words words old new text told faults told_new faults_new d r p = (text, d, inr (r, p))
 ends_cut status.Script words old new text told faults told_new faults_new d r p = (text, d, inr (r, p))
 ends_cut status.File words old new text told faults told_new faults_new d r p = (text, d, inr (r, p))
-ends_cut status.Output words old new text told faults told_new faults_new d r p = absurd d
-ends_cut status.NoMemory words old new text told faults told_new faults_new d r p = absurd d
+ends_cut status.Output words old new text told faults told_new faults_new d r p = absurd (no_output words d.0 old new text d.2)
+ends_cut status.NoMemory words old new text told faults told_new faults_new d r p = absurd (no_no_memory words d.0 old new text d.2)
 
 -- a text that was decided on, and its writing, make a run
 pub run_ends : (decided ended : Status) (words : List (List ℕ)) (old new : Outside) (text : List ℕ) (told : Option (List ℕ)) (faults : ℕ) (told_new : Option (List ℕ)) (faults_new : ℕ)
@@ -107,45 +150,3 @@ run_ends decided ended words old new text told faults told_new faults_new d (inr
 run_ends decided ended words old new text told faults told_new faults_new d (inr (inr h)) =
     let F : Status → Type 0 = λ s. Ends s words old new told faults told_new faults_new in
     subst F (sym h.0) (inr (decided, text, d, h.1))
-
-pub refused_is : (s : Stop) (d : Decided) (P : Decided → Type 0) → s ≡ stop.Refused d → IfRefused s P → P d
-refused_is s d P e h = let F : Stop → Type 0 = λ k. IfRefused k P in subst F e h
-
-pub no_memory_is : (s : Stop) (P : Type 0) → s ≡ stop.NoMemory → IfNoMemory s P → P
-no_memory_is s P e h = let F : Stop → Type 0 = λ k. IfNoMemory k P in subst F e h
-
--- the refusal of a letter that is not bound
-pub unbound_refused : (s : Stop) (name_a text_a name_b text_b : List ℕ) (letters : List ℕ) (bindings : List Binding) → AsksFor text_a letters → Binds text_b bindings
-    → IfRefused s (λ d. (d.status ≡ status.Script) × ((line : ℕ) × IsFirstUnbound bindings letters line × (string_bytes d.text ≡ script_line name_a line)))
-    → IfRefused s (λ d. (d.status ≡ status.Script) × ((name : List ℕ) × (line : ℕ) × IsRefusal name_a text_a name_b text_b name line × (string_bytes d.text ≡ script_line name line)))
-unbound_refused s name_a text_a name_b text_b letters bindings asks binds =
-    if_refused s (λ d. (d.status ≡ status.Script) × ((line : ℕ) × IsFirstUnbound bindings letters line × (string_bytes d.text ≡ script_line name_a line)))
-    (λ d. (d.status ≡ status.Script) × ((name : List ℕ) × (line : ℕ) × IsRefusal name_a text_a name_b text_b name line × (string_bytes d.text ≡ script_line name line)))
-    (λ d h. (h.0, (name_a, h.1.0, inr (inr (letters, bindings, asks, binds, refl, h.1.1)), h.1.2)))
-
--- both files were read
-abbrev pub scripts_of : (words : List (List ℕ)) (held held_later : Held) (name_a name_b bytes_a text_a bytes_b text_b : List ℕ) → IsPair words name_a name_b → Holds held name_a bytes_a → text_a ≡ bytes_a
-    → held_later ≡ held → Holds held_later name_b bytes_b → text_b ≡ bytes_b → Scripts words held
-scripts_of words held held_later name_a name_b bytes_a text_a bytes_b text_b named a e kept b f = record {
-  name_a = name_a;
-  name_b = name_b;
-  text_a = text_a;
-  text_b = text_b;
-  named = named;
-  read_a = subst (Holds held name_a) (sym e) a;
-  read_b = subst (Holds held name_b) (sym f) (subst (λ h. Holds h name_b bytes_b) kept b);
-}
-
-script_decides_at : (decided : Status) (words : List (List ℕ)) (old new : Outside) (s : Scripts words old.held) (text : List ℕ) → Unbegun old new → decided ≡ status.Script
-    → ((name : List ℕ) × (line : ℕ) × IsRefusal s.name_a s.text_a s.name_b s.text_b name line × (text ≡ script_line name line)) → Decides decided words old new text
-script_decides_at decided words old new s text same e h =
-    let F : Status → Type 0 = λ k. Decides k words old new text in
-    subst F (sym e) (s, h.0, h.1, h.2, h.3, same)
-
-pub script_decides : (stopped : Stop) (words : List (List ℕ)) (old new : Outside) (s : Scripts words old.held) → Unbegun old new
-    → IfRefused stopped (λ d. (d.status ≡ status.Script) × ((name : List ℕ) × (line : ℕ) × IsRefusal s.name_a s.text_a s.name_b s.text_b name line × (string_bytes d.text ≡ script_line name line)))
-    → IfRefused stopped (λ d. Decides d.status words old new (string_bytes d.text))
-script_decides stopped words old new s same =
-    if_refused stopped (λ d. (d.status ≡ status.Script) × ((name : List ℕ) × (line : ℕ) × IsRefusal s.name_a s.text_a s.name_b s.text_b name line × (string_bytes d.text ≡ script_line name line)))
-    (λ d. Decides d.status words old new (string_bytes d.text))
-    (λ d h. script_decides_at d.status words old new s (string_bytes d.text) same h.0 h.1)

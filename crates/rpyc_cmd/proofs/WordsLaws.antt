@@ -3,16 +3,19 @@ use Rattle.std.proofs.Common.{◌≡◌, ℕ, List, [], ◌∷◌, Bool, true, f
 use Rattle.std.specs.Bool.{IsTrue}
 use Rattle.std.specs.Str.{bytes_eq}
 use Rattle.std.proofs.lemmas.Slice.Eq.{bytes_eq-Decides}
-use Rattle.rpyc_cmd.specs.Words.{is_file_name, IsPair, Begins, IsRefusedAt, no_more, second_name, file_names, command_of}
+use Rattle.rpyc_cmd.specs.Words.{is_file_name, IsPair, IsDump, Asked, PairOf, DumpOf, Spells, Begins, IsRefusedAt, no_more, second_name, file_names, file_name, command_of}
 
 abbrev Read : Type 0
-Read = Result (List ℕ × List ℕ) ℕ
+Read = Result Asked ℕ
 
 abbrev pair_word : List ℕ
 pair_word = codes "pair"
 
+abbrev dump_word : List ℕ
+dump_word = codes "dump"
+
 -- a test that decides whether the reading goes on
-goes_on : (t : Bool) (more : Read) (n : ℕ) (p : List ℕ × List ℕ) → cond t more (Err n) ≡ Ok p → (t ≡ true) × (more ≡ Ok p)
+goes_on : (t : Bool) (more : Read) (n : ℕ) (p : Asked) → cond t more (Err n) ≡ Ok p → (t ≡ true) × (more ≡ Ok p)
 goes_on true more n p h = (refl, h)
 goes_on false more n p h = cc
 
@@ -20,143 +23,176 @@ stops_or_later : {G : Type 0} (t : Bool) (more : Read) (n at : ℕ) → (t ≡ t
 stops_or_later true more n at later here h = later refl h
 stops_or_later false more n at later here h = here refl (cc)
 
-no_more_gives : (x y : List ℕ) (words : List (List ℕ)) (a b : List ℕ) → no_more x y words ≡ Ok (a, b) → (words ≡ []) × (x ≡ a) × (y ≡ b)
-no_more_gives x y [] a b h =
-    let p : List ℕ × List ℕ = (x, y) in
-    let q : List ℕ × List ℕ = (a, b) in
-    let e : p ≡ q = cc in
-    (refl, ap (λ (r : List ℕ × List ℕ). r.0) e, ap (λ (r : List ℕ × List ℕ). r.1) e)
-no_more_gives x y (w ∷ words) a b h = cc
+-- a test that decides between two readings
+either : {G : Type 0} (t : Bool) (more less : Read) (r : Read) → (t ≡ true → more ≡ r → G) → (t ≡ false → less ≡ r → G) → cond t more less ≡ r → G
+either true more less r here later h = here refl h
+either false more less r here later h = later refl h
 
-second_name_gives : (x : List ℕ) (words : List (List ℕ)) (a b : List ℕ) → second_name x words ≡ Ok (a, b) → (x ≡ a) × (words ≡ b ∷ []) × IsTrue (is_file_name b)
-second_name_gives x [] a b h = cc
-second_name_gives x (y ∷ words) a b h =
-    let parts = goes_on (is_file_name y) (no_more x y words) 2 (a, b) h in
-    let last = no_more_gives x y words a b parts.1 in
-    (last.1, ap (λ ws. y ∷ ws) last.0 ∙ ap (λ w. w ∷ []) last.2, subst (λ w. IsTrue (is_file_name w)) last.2 parts.0)
+no_more_gives : (x : Asked) (at : ℕ) (words : List (List ℕ)) (p : Asked) → no_more x at words ≡ Ok p → (words ≡ []) × (x ≡ p)
+no_more_gives x at [] p h = let e : x ≡ p = cc in (refl, e)
+no_more_gives x at (w ∷ words) p h = cc
 
-file_names_gives : (words : List (List ℕ)) (a b : List ℕ) → file_names words ≡ Ok (a, b) → IsPair (pair_word ∷ words) a b
-file_names_gives [] a b h = cc
-file_names_gives (x ∷ words) a b h =
-    let parts = goes_on (is_file_name x) (second_name x words) 1 (a, b) h in
-    let names = second_name_gives x words a b parts.1 in
-    record {
-      spelled = ap (λ ws. pair_word ∷ x ∷ ws) names.1 ∙ ap (λ w. pair_word ∷ w ∷ b ∷ []) names.0;
-      named_a = subst (λ w. IsTrue (is_file_name w)) names.0 parts.0;
-      named_b = names.2;
-    }
+full_pair : (a b : List ℕ) → IsTrue (is_file_name a) → IsTrue (is_file_name b) → IsPair (pair_word ∷ a ∷ b ∷ []) a b
+full_pair a b good_a good_b = record { spelled = refl; named_a = good_a; named_b = good_b }
 
-pub command_gives : (words : List (List ℕ)) (a b : List ℕ) → command_of words ≡ Ok (a, b) → IsPair words a b
-command_gives [] a b h = cc
-command_gives (word ∷ words) a b h =
-    let parts = goes_on (bytes_eq word pair_word) (file_names words) 0 (a, b) h in
-    let first : word ≡ pair_word = (bytes_eq-Decides word pair_word).0 parts.0 in
-    subst (λ w. IsPair (w ∷ words) a b) (sym first) (file_names_gives words a b parts.1)
+full_dump : (file : List ℕ) → IsTrue (is_file_name file) → IsDump (dump_word ∷ file ∷ []) file
+full_dump file good = record { spelled = refl; named = good }
+
+second_name_gives : (x : List ℕ) (words : List (List ℕ)) (p : Asked) → IsTrue (is_file_name x) → second_name x words ≡ Ok p → Spells (pair_word ∷ x ∷ words) p
+second_name_gives x [] p good h = cc
+second_name_gives x (y ∷ words) p good h =
+    let parts = goes_on (is_file_name y) (no_more (PairOf x y) 3 words) 2 p h in
+    let last = no_more_gives (PairOf x y) 3 words p parts.1 in
+    subst (Spells (pair_word ∷ x ∷ y ∷ words)) last.1
+    (let F : List (List ℕ) → Type 0 = λ ws. IsPair (pair_word ∷ x ∷ y ∷ ws) x y in subst F (sym last.0) (full_pair x y good parts.0))
+
+file_names_gives : (words : List (List ℕ)) (p : Asked) → file_names words ≡ Ok p → Spells (pair_word ∷ words) p
+file_names_gives [] p h = cc
+file_names_gives (x ∷ words) p h = let parts = goes_on (is_file_name x) (second_name x words) 1 p h in second_name_gives x words p parts.0 parts.1
+
+file_name_gives : (words : List (List ℕ)) (p : Asked) → file_name words ≡ Ok p → Spells (dump_word ∷ words) p
+file_name_gives [] p h = cc
+file_name_gives (x ∷ words) p h =
+    let parts = goes_on (is_file_name x) (no_more (DumpOf x) 2 words) 1 p h in
+    let last = no_more_gives (DumpOf x) 2 words p parts.1 in
+    subst (Spells (dump_word ∷ x ∷ words)) last.1
+    (let F : List (List ℕ) → Type 0 = λ ws. IsDump (dump_word ∷ x ∷ ws) x in subst F (sym last.0) (full_dump x parts.0))
+
+-- a word that is this one
+same_word : (word wanted : List ℕ) (P : List ℕ → Type 0) → bytes_eq word wanted ≡ true → P wanted → P word
+same_word word wanted P same h = subst P (sym ((bytes_eq-Decides word wanted).0 same)) h
+
+pub command_gives : (words : List (List ℕ)) (p : Asked) → command_of words ≡ Ok p → Spells words p
+command_gives [] p h = cc
+command_gives (word ∷ words) p h =
+    either (bytes_eq word pair_word) (file_names words) (cond (bytes_eq word dump_word) (file_name words) (Err 0)) (Ok p)
+    (λ same more. same_word word pair_word (λ w. Spells (w ∷ words) p) same (file_names_gives words p more))
+    (λ other more. let parts = goes_on (bytes_eq word dump_word) (file_name words) 0 p more in
+    same_word word dump_word (λ w. Spells (w ∷ words) p) parts.0 (file_name_gives words p parts.1)) h
 
 -- Fronts of command lines.
 
-full : (a b : List ℕ) → IsTrue (is_file_name a) → IsTrue (is_file_name b) → IsPair (pair_word ∷ a ∷ b ∷ []) a b
-full a b good_a good_b = record { spelled = refl; named_a = good_a; named_b = good_b }
-
 begins_empty : Begins []
-begins_empty = (pair_word ∷ codes "a" ∷ codes "b" ∷ [], codes "a", codes "b", full (codes "a") (codes "b") refl refl)
+begins_empty = (dump_word ∷ codes "a" ∷ [], DumpOf (codes "a"), full_dump (codes "a") refl)
 
 begins_pair : Begins (pair_word ∷ [])
-begins_pair = (codes "a" ∷ codes "b" ∷ [], codes "a", codes "b", full (codes "a") (codes "b") refl refl)
+begins_pair = (codes "a" ∷ codes "b" ∷ [], PairOf (codes "a") (codes "b"), full_pair (codes "a") (codes "b") refl refl)
+
+begins_dump : Begins (dump_word ∷ [])
+begins_dump = (codes "a" ∷ [], DumpOf (codes "a"), full_dump (codes "a") refl)
 
 begins_name : (a : List ℕ) → IsTrue (is_file_name a) → Begins (pair_word ∷ a ∷ [])
-begins_name a good = (codes "b" ∷ [], a, codes "b", full a (codes "b") good refl)
+begins_name a good = (codes "b" ∷ [], PairOf a (codes "b"), full_pair a (codes "b") good refl)
 
 begins_names : (a b : List ℕ) → IsTrue (is_file_name a) → IsTrue (is_file_name b) → Begins (pair_word ∷ a ∷ b ∷ [])
-begins_names a b good_a good_b = ([], a, b, full a b good_a good_b)
+begins_names a b good_a good_b = ([], PairOf a b, full_pair a b good_a good_b)
+
+begins_file : (file : List ℕ) → IsTrue (is_file_name file) → Begins (dump_word ∷ file ∷ [])
+begins_file file good = ([], DumpOf file, full_dump file good)
 
 -- What no command line is.
-other_command : (word : List ℕ) (rest : List (List ℕ)) (a b : List ℕ) → bytes_eq word pair_word ≡ false → IsPair (word ∷ rest) a b → ⊥
-other_command word rest a b other p =
-    let first : word ≡ pair_word = let e = p.spelled in cc in
-    let same : bytes_eq word pair_word ≡ true = (bytes_eq-Decides word pair_word).1 first in cc
+not_this : (word wanted : List ℕ) (words others : List (List ℕ)) → bytes_eq word wanted ≡ false → word ∷ words ≡ wanted ∷ others → ⊥
+not_this word wanted words others other e =
+    let first : word ≡ wanted = cc in
+    let same : bytes_eq word wanted ≡ true = (bytes_eq-Decides word wanted).1 first in cc
 
-other_a : (first x : List ℕ) (rest : List (List ℕ)) (a b : List ℕ) → is_file_name x ≡ false → IsPair (first ∷ x ∷ rest) a b → ⊥
-other_a first x rest a b other p =
-    let e : x ≡ a = let e = p.spelled in cc in
-    let good : is_file_name a ≡ true = p.named_a in
-    let bad = ap is_file_name e in cc
+other_command : (word : List ℕ) (rest : List (List ℕ)) (p : Asked) → bytes_eq word pair_word ≡ false → bytes_eq word dump_word ≡ false → Spells (word ∷ rest) p → ⊥
+other_command word rest (PairOf a b) no_pair no_dump p = not_this word pair_word rest (a ∷ b ∷ []) no_pair p.spelled
+other_command word rest (DumpOf file) no_pair no_dump p = not_this word dump_word rest (file ∷ []) no_dump p.spelled
 
-other_b : (first x y : List ℕ) (rest : List (List ℕ)) (a b : List ℕ) → is_file_name y ≡ false → IsPair (first ∷ x ∷ y ∷ rest) a b → ⊥
-other_b first x y rest a b other p =
-    let e : y ≡ b = let e = p.spelled in cc in
-    let good : is_file_name b ≡ true = p.named_b in
-    let bad = ap is_file_name e in cc
+bad_name : (x a : List ℕ) → x ≡ a → is_file_name x ≡ false → IsTrue (is_file_name a) → ⊥
+bad_name x a e other good = let bad : is_file_name a ≡ false = sym (ap is_file_name e) ∙ other in let well : is_file_name a ≡ true = good in cc
 
-four_words : (first x y z : List ℕ) (rest : List (List ℕ)) (a b : List ℕ) → IsPair (first ∷ x ∷ y ∷ z ∷ rest) a b → ⊥
-four_words first x y z rest a b p = let e = p.spelled in cc
+other_a : (x : List ℕ) (rest : List (List ℕ)) (p : Asked) → is_file_name x ≡ false → Spells (pair_word ∷ x ∷ rest) p → ⊥
+other_a x rest (PairOf a b) other p = let e : x ≡ a = let e = p.spelled in cc in bad_name x a e other p.named_a
+other_a x rest (DumpOf file) other p = not_this pair_word dump_word (x ∷ rest) (file ∷ []) refl p.spelled
 
--- Each refusal.
+other_b : (x y : List ℕ) (rest : List (List ℕ)) (p : Asked) → is_file_name y ≡ false → Spells (pair_word ∷ x ∷ y ∷ rest) p → ⊥
+other_b x y rest (PairOf a b) other p = let e : y ≡ b = let e = p.spelled in cc in bad_name y b e other p.named_b
+other_b x y rest (DumpOf file) other p = not_this pair_word dump_word (x ∷ y ∷ rest) (file ∷ []) refl p.spelled
+
+other_file : (x : List ℕ) (rest : List (List ℕ)) (p : Asked) → is_file_name x ≡ false → Spells (dump_word ∷ x ∷ rest) p → ⊥
+other_file x rest (PairOf a b) other p = not_this dump_word pair_word (x ∷ rest) (a ∷ b ∷ []) refl p.spelled
+other_file x rest (DumpOf file) other p = let e : x ≡ file = let e = p.spelled in cc in bad_name x file e other p.named
+
+pair_alone : (p : Asked) → Spells (pair_word ∷ []) p → ⊥
+pair_alone (PairOf a b) p = let e = p.spelled in cc
+pair_alone (DumpOf file) p = let e = p.spelled in cc
+
+dump_alone : (p : Asked) → Spells (dump_word ∷ []) p → ⊥
+dump_alone (PairOf a b) p = let e = p.spelled in cc
+dump_alone (DumpOf file) p = let e = p.spelled in cc
+
+nothing : (p : Asked) → Spells [] p → ⊥
+nothing (PairOf a b) p = let e = p.spelled in cc
+nothing (DumpOf file) p = let e = p.spelled in cc
+
+one_name : (x : List ℕ) (p : Asked) → Spells (pair_word ∷ x ∷ []) p → ⊥
+one_name x (PairOf a b) p = let e = p.spelled in cc
+one_name x (DumpOf file) p = not_this pair_word dump_word (x ∷ []) (file ∷ []) refl p.spelled
+
+three_names : (x y z : List ℕ) (rest : List (List ℕ)) (p : Asked) → Spells (pair_word ∷ x ∷ y ∷ z ∷ rest) p → ⊥
+three_names x y z rest (PairOf a b) p = let e = p.spelled in cc
+three_names x y z rest (DumpOf file) p = let e = p.spelled in cc
+
+two_files : (x y : List ℕ) (rest : List (List ℕ)) (p : Asked) → Spells (dump_word ∷ x ∷ y ∷ rest) p → ⊥
+two_files x y rest (PairOf a b) p = not_this dump_word pair_word (x ∷ y ∷ rest) (a ∷ b ∷ []) refl p.spelled
+two_files x y rest (DumpOf file) p = let e = p.spelled in cc
+
+-- Each refusal: all words before the place begin a command line, and with the word at it, or with none, they do not.
 refused_empty : IsRefusedAt [] 0
-refused_empty = record {
-  within = omega arith;
-  begins = begins_empty;
-  stops = λ more _. absurd (omega (arith, more));
-  lacks = λ a b p. let e = p.spelled in cc;
-}
+refused_empty = record { within = omega arith; begins = begins_empty; stops = λ more _. absurd (omega (arith, more)); lacks = nothing }
 
-refused_command : (word : List ℕ) (words : List (List ℕ)) → bytes_eq word pair_word ≡ false → IsRefusedAt (word ∷ words) 0
-refused_command word words other = record {
+refused_command : (word : List ℕ) (words : List (List ℕ)) → bytes_eq word pair_word ≡ false → bytes_eq word dump_word ≡ false → IsRefusedAt (word ∷ words) 0
+refused_command word words no_pair no_dump = record {
   within = omega arith;
   begins = begins_empty;
-  stops = λ _ more. other_command word more.0 more.1 more.2 other more.3;
-  lacks = λ a b p. other_command word words a b other p;
+  stops = λ _ more. other_command word more.0 more.1 no_pair no_dump more.2;
+  lacks = λ p h. other_command word words p no_pair no_dump h;
 }
 
 refused_no_a : IsRefusedAt (pair_word ∷ []) 1
-refused_no_a = record {
-  within = omega arith;
-  begins = begins_pair;
-  stops = λ more _. absurd (omega (arith, more));
-  lacks = λ a b p. let e = p.spelled in cc;
-}
+refused_no_a = record { within = omega arith; begins = begins_pair; stops = λ more _. absurd (omega (arith, more)); lacks = pair_alone }
 
 refused_a : (x : List ℕ) (words : List (List ℕ)) → is_file_name x ≡ false → IsRefusedAt (pair_word ∷ x ∷ words) 1
-refused_a x words other = record {
-  within = omega arith;
-  begins = begins_pair;
-  stops = λ _ more. other_a pair_word x more.0 more.1 more.2 other more.3;
-  lacks = λ a b p. other_a pair_word x words a b other p;
-}
+refused_a x words other = record { within = omega arith; begins = begins_pair; stops = λ _ more. other_a x more.0 more.1 other more.2; lacks = λ p h. other_a x words p other h }
 
 refused_no_b : (x : List ℕ) → is_file_name x ≡ true → IsRefusedAt (pair_word ∷ x ∷ []) 2
-refused_no_b x good = record {
-  within = omega arith;
-  begins = begins_name x good;
-  stops = λ more _. absurd (omega (arith, more));
-  lacks = λ a b p. let e = p.spelled in cc;
-}
+refused_no_b x good = record { within = omega arith; begins = begins_name x good; stops = λ more _. absurd (omega (arith, more)); lacks = one_name x }
 
 refused_b : (x y : List ℕ) (words : List (List ℕ)) → is_file_name x ≡ true → is_file_name y ≡ false → IsRefusedAt (pair_word ∷ x ∷ y ∷ words) 2
-refused_b x y words good other = record {
-  within = omega arith;
-  begins = begins_name x good;
-  stops = λ _ more. other_b pair_word x y more.0 more.1 more.2 other more.3;
-  lacks = λ a b p. other_b pair_word x y words a b other p;
-}
+refused_b x y words good other = record { within = omega arith; begins = begins_name x good; stops = λ _ more. other_b x y more.0 more.1 other more.2; lacks = λ p h. other_b x y words p other h }
 
-refused_more : (x y z : List ℕ) (words : List (List ℕ)) → is_file_name x ≡ true → is_file_name y ≡ true → IsRefusedAt (pair_word ∷ x ∷ y ∷ z ∷ words) 3
-refused_more x y z words good_x good_y = record {
+refused_third : (x y z : List ℕ) (words : List (List ℕ)) → is_file_name x ≡ true → is_file_name y ≡ true → IsRefusedAt (pair_word ∷ x ∷ y ∷ z ∷ words) 3
+refused_third x y z words good_x good_y = record {
   within = omega arith;
   begins = begins_names x y good_x good_y;
-  stops = λ _ more. four_words pair_word x y z more.0 more.1 more.2 more.3;
-  lacks = λ a b p. four_words pair_word x y z words a b p;
+  stops = λ _ more. three_names x y z more.0 more.1 more.2;
+  lacks = λ p h. three_names x y z words p h;
 }
 
-no_more_refuses : (x y : List ℕ) (words : List (List ℕ)) (at : ℕ) → is_file_name x ≡ true → is_file_name y ≡ true → no_more x y words ≡ Err at → IsRefusedAt (pair_word ∷ x ∷ y ∷ words) at
-no_more_refuses x y [] at good_x good_y h = cc
-no_more_refuses x y (z ∷ words) at good_x good_y h = let e : 3 ≡ at = cc in subst (IsRefusedAt (pair_word ∷ x ∷ y ∷ z ∷ words)) e (refused_more x y z words good_x good_y)
+refused_no_file : IsRefusedAt (dump_word ∷ []) 1
+refused_no_file = record { within = omega arith; begins = begins_dump; stops = λ more _. absurd (omega (arith, more)); lacks = dump_alone }
+
+refused_file : (x : List ℕ) (words : List (List ℕ)) → is_file_name x ≡ false → IsRefusedAt (dump_word ∷ x ∷ words) 1
+refused_file x words other = record { within = omega arith; begins = begins_dump; stops = λ _ more. other_file x more.0 more.1 other more.2; lacks = λ p h. other_file x words p other h }
+
+refused_second : (x y : List ℕ) (words : List (List ℕ)) → is_file_name x ≡ true → IsRefusedAt (dump_word ∷ x ∷ y ∷ words) 2
+refused_second x y words good = record { within = omega arith; begins = begins_file x good; stops = λ _ more. two_files x y more.0 more.1 more.2; lacks = λ p h. two_files x y words p h }
+
+no_third_refuses : (x y : List ℕ) (words : List (List ℕ)) (at : ℕ) → is_file_name x ≡ true → is_file_name y ≡ true → no_more (PairOf x y) 3 words ≡ Err at → IsRefusedAt (pair_word ∷ x ∷ y ∷ words) at
+no_third_refuses x y [] at good_x good_y h = cc
+no_third_refuses x y (z ∷ words) at good_x good_y h = let e : 3 ≡ at = cc in subst (IsRefusedAt (pair_word ∷ x ∷ y ∷ z ∷ words)) e (refused_third x y z words good_x good_y)
+
+no_second_refuses : (x : List ℕ) (words : List (List ℕ)) (at : ℕ) → is_file_name x ≡ true → no_more (DumpOf x) 2 words ≡ Err at → IsRefusedAt (dump_word ∷ x ∷ words) at
+no_second_refuses x [] at good h = cc
+no_second_refuses x (y ∷ words) at good h = let e : 2 ≡ at = cc in subst (IsRefusedAt (dump_word ∷ x ∷ y ∷ words)) e (refused_second x y words good)
 
 second_name_refuses : (x : List ℕ) (words : List (List ℕ)) (at : ℕ) → is_file_name x ≡ true → second_name x words ≡ Err at → IsRefusedAt (pair_word ∷ x ∷ words) at
 second_name_refuses x [] at good h = let e : 2 ≡ at = cc in subst (IsRefusedAt (pair_word ∷ x ∷ [])) e (refused_no_b x good)
 second_name_refuses x (y ∷ words) at good h =
-    stops_or_later (is_file_name y) (no_more x y words) 2 at
-    (λ good_y more. no_more_refuses x y words at good good_y more)
+    stops_or_later (is_file_name y) (no_more (PairOf x y) 3 words) 2 at
+    (λ good_y more. no_third_refuses x y words at good good_y more)
     (λ other e. subst (IsRefusedAt (pair_word ∷ x ∷ y ∷ words)) e (refused_b x y words good other)) h
 
 file_names_refuses : (words : List (List ℕ)) (at : ℕ) → file_names words ≡ Err at → IsRefusedAt (pair_word ∷ words) at
@@ -166,9 +202,22 @@ file_names_refuses (x ∷ words) at h =
     (λ good more. second_name_refuses x words at good more)
     (λ other e. subst (IsRefusedAt (pair_word ∷ x ∷ words)) e (refused_a x words other)) h
 
+file_name_refuses : (words : List (List ℕ)) (at : ℕ) → file_name words ≡ Err at → IsRefusedAt (dump_word ∷ words) at
+file_name_refuses [] at h = let e : 1 ≡ at = cc in subst (IsRefusedAt (dump_word ∷ [])) e refused_no_file
+file_name_refuses (x ∷ words) at h =
+    stops_or_later (is_file_name x) (no_more (DumpOf x) 2 words) 1 at
+    (λ good more. no_second_refuses x words at good more)
+    (λ other e. subst (IsRefusedAt (dump_word ∷ x ∷ words)) e (refused_file x words other)) h
+
+no_pair_refuses : (word : List ℕ) (words : List (List ℕ)) (at : ℕ) → bytes_eq word pair_word ≡ false → cond (bytes_eq word dump_word) (file_name words) (Err 0) ≡ Err at → IsRefusedAt (word ∷ words) at
+no_pair_refuses word words at no_pair h =
+    stops_or_later (bytes_eq word dump_word) (file_name words) 0 at
+    (λ same more. same_word word dump_word (λ w. IsRefusedAt (w ∷ words) at) same (file_name_refuses words at more))
+    (λ other e. subst (IsRefusedAt (word ∷ words)) e (refused_command word words no_pair other)) h
+
 pub command_refuses : (words : List (List ℕ)) (at : ℕ) → command_of words ≡ Err at → IsRefusedAt words at
 command_refuses [] at h = let e : 0 ≡ at = cc in subst (IsRefusedAt []) e refused_empty
 command_refuses (word ∷ words) at h =
-    stops_or_later (bytes_eq word pair_word) (file_names words) 0 at
-    (λ same more. subst (λ w. IsRefusedAt (w ∷ words) at) (sym ((bytes_eq-Decides word pair_word).0 same)) (file_names_refuses words at more))
-    (λ other e. subst (IsRefusedAt (word ∷ words)) e (refused_command word words other)) h
+    either (bytes_eq word pair_word) (file_names words) (cond (bytes_eq word dump_word) (file_name words) (Err 0)) (Err at)
+    (λ same more. same_word word pair_word (λ w. IsRefusedAt (w ∷ words) at) same (file_names_refuses words at more))
+    (λ other more. no_pair_refuses word words at other more) h

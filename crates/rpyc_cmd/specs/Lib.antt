@@ -1,8 +1,5 @@
-pub mod Words
-pub mod Scripts
-pub mod Messages
-pub mod Talk
-pub mod Report
-pub mod Outcome
-pub mod Statuses
 pub mod Deciding
+pub mod Outcome
+pub mod Report
+pub mod Statuses
+pub mod Words

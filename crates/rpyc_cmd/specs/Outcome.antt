@@ -2,14 +2,16 @@
 use Rattle.std.specs.Prelude.{◌≡◌, ℕ, List, [], Option, Some, None, ◌⊎◌, All, IsSome, take}
 use Rattle.wire_io.specs.Devices.{Rose, Wrote, IsPart}
 use Rattle.wire_io.specs.declared.wire.Over.{Over}
-use Rattle.wire_io.specs.declared.wire.Over.TheVariants as over
-use Rattle.rpyc_cmd.specs.declared.scripts.Binding.{Binding}
+use Rattle.pair_run.specs.declared.ends.RunEnd.TheVariants as run_end
+use Rattle.pair_run.specs.declared.scripts.Binding.{Binding}
+use Rattle.pair_run.specs.Running.{Wires, wires, IsUnrun, IsWholeRun, IsPartRun, IsCutRun, HasFailed}
+use Rattle.pair_run.specs.Scripts.{AsksFor, Binds, IsFirstOtherQuestion, IsFirstOtherBinding, IsFirstUnbound, number_of}
+use Rattle.pair_run.specs.Talk.{printed, units_of}
+use Rattle.message_core.specs.declared.faults.PeerFault.{PeerFault}
+use Rattle.report_text.specs.Dumping.{dump_text, dump_fault}
 use Rattle.rpyc_cmd.specs.declared.status.Status.{Status}
 use Rattle.rpyc_cmd.specs.declared.status.Status.TheVariants as status
-use Rattle.rpyc_cmd.specs.declared.report.RunEnd.TheVariants as run_end
-use Rattle.rpyc_cmd.specs.Words.{IsPair, IsRefusedAt}
-use Rattle.rpyc_cmd.specs.Scripts.{AsksFor, Binds, IsFirstOtherQuestion, IsFirstOtherBinding, IsFirstUnbound, number_of}
-use Rattle.rpyc_cmd.specs.Talk.{printed, units_of, talk, stream, Carries, CarriesFront}
+use Rattle.rpyc_cmd.specs.Words.{IsPair, Asked, PairOf, DumpOf, Spells, IsRefusedAt}
 use Rattle.rpyc_cmd.specs.Report.{report, words_line, script_line, not_there_line, read_fault_line}
 
 -- a map from names to bytes, where the files tell it
@@ -25,47 +27,24 @@ abbrev pub Lacks : Held → List ℕ → Type 0
 Lacks None name = Unit {0}
 Lacks (Some held) name = held name ≡ None
 
--- what a wire shows from outside: the bytes put so far, how it was last begun, and its faults
-pub record Seen : Type 0 where
-  pub carried : List ℕ
-  pub begun : Option Over
-  pub faults : ℕ
-
-abbrev pub seen : List ℕ → Option Over → ℕ → Seen
-seen carried begun faults = record { carried = carried; begun = begun; faults = faults }
-
 -- what the files and the wires show from outside
 pub record Outside : Type 0 where
   pub held : Held
   pub file_faults : ℕ
-  pub ab : Seen
-  pub ba : Seen
+  pub wires : Wires
 
-abbrev pub outside : Held → ℕ → Seen → Seen → Outside
-outside held file_faults ab ba = record { held = held; file_faults = file_faults; ab = ab; ba = ba }
+-- the same, from what a form of the files and a form of the wire mean
+abbrev pub outside : {X Y : Type 0} → (X → Held) → (X → ℕ) → (Y → List ℕ) → (Y → Option Over) → (Y → ℕ) → X → Y → Y → Outside
+outside held file_faults carried begun faults files ab ba = record { held = held files; file_faults = file_faults files; wires = wires carried begun faults ab ba }
 
 -- no run was begun: the wires were not touched
-pub record Unbegun (old new : Outside) : Type 0 where
-  pub same_ab : new.ab ≡ old.ab
-  pub same_ba : new.ba ≡ old.ba
+abbrev pub Unbegun : Outside → Outside → Type 0
+Unbegun old new = new.wires ≡ old.wires
 
--- both wires were begun over memory
-abbrev pub AreBegun : Option Over → Option Over → Type 0
-AreBegun ab ba = (ab ≡ Some over.Memory) × (ba ≡ Some over.Memory)
-
--- A wire did not begin, so nothing was carried. B's wire is begun after A's.
-abbrev pub IsUnrun : Seen → Seen → Seen → Seen → Type 0
-IsUnrun ab ab_new ba ba_new =
-    ((ab_new.begun ≡ ab.begun) ⊎ (ab_new.begun ≡ Some over.Memory)) × (ba_new.begun ≡ ba.begun)
-    × (ab_new.carried ≡ ab.carried) × (ba_new.carried ≡ ba.carried)
-
--- the words name two files, which were read: these scripts
-pub record Scripts (words : List (List ℕ)) (held : Held) : Type 0 where
-  pub name_a : List ℕ
-  pub name_b : List ℕ
+-- two files, of these names, were read: these scripts
+pub record Scripts (name_a name_b : List ℕ) (held : Held) : Type 0 where
   pub text_a : List ℕ
   pub text_b : List ℕ
-  pub named : IsPair words name_a name_b
   pub read_a : Holds held name_a text_a
   pub read_b : Holds held name_b text_b
 
@@ -94,43 +73,71 @@ done_report bindings letters = report run_end.Done [] (printed bindings letters)
 abbrev pub cut_report : List Binding → List ℕ → ℕ → List ℕ
 cut_report bindings letters count = report run_end.Wire [] (printed bindings (take count letters)) None None
 
--- A run that was cut short: by a wire that did not begin, or in the conversation.
-abbrev pub IsCutRun : List Binding → List ℕ → Seen → Seen → Seen → Seen → Type 0
-IsCutRun bindings letters ab ab_new ba ba_new =
-    IsUnrun ab ab_new ba ba_new ⊎ (AreBegun ab_new.begun ba_new.begun × CarriesFront (stream (talk bindings letters)) ab.carried ab_new.carried ba.carried ba_new.carried)
+-- A run that was cut short, with its report: nothing was printed where nothing ran.
+abbrev pub IsReportedCut : List Binding → List ℕ → List ℕ → Wires → Wires → Type 0
+IsReportedCut bindings letters text old new =
+    (IsUnrun old new × (text ≡ cut_report bindings letters 0)) ⊎ (IsPartRun bindings letters old new × ((count : ℕ) × (text ≡ cut_report bindings letters count)))
 
--- the same with the report: nothing was printed where nothing ran
-abbrev pub IsReportedCut : List Binding → List ℕ → List ℕ → Seen → Seen → Seen → Seen → Type 0
-IsReportedCut bindings letters text ab ab_new ba ba_new =
-    (IsUnrun ab ab_new ba ba_new × (text ≡ cut_report bindings letters 0))
-    ⊎ (AreBegun ab_new.begun ba_new.begun × CarriesFront (stream (talk bindings letters)) ab.carried ab_new.carried ba.carried ba_new.carried
-    × ((count : ℕ) × (text ≡ cut_report bindings letters count)))
+-- what a run decides on: the status, the report, and what the wires show
+abbrev pub IsDecided : Status → List Binding → List ℕ → List ℕ → Wires → Wires → Type 0
+IsDecided status.Done bindings letters text old new = IsWholeRun bindings letters old new × (text ≡ done_report bindings letters)
+IsDecided status.Device bindings letters text old new = IsReportedCut bindings letters text old new × HasFailed old new
+IsDecided decided bindings letters text old new = ⊥
+
+-- two files were read, and their scripts were run
+abbrev pub Runs : Status → List ℕ → List ℕ → Outside → Outside → List ℕ → Type 0
+Runs decided name_a name_b old new text =
+    (s : Scripts name_a name_b old.held) × (letters : List ℕ) × (bindings : List Binding) × AreAccepted s.text_a s.text_b letters bindings
+    × IsDecided decided bindings letters text old.wires new.wires
+
+-- What comes of two files of these names: a status and a text.
+abbrev pub PairGives : Status → List ℕ → List ℕ → Outside → Outside → List ℕ → Type 0
+PairGives status.Done name_a name_b old new text = Runs status.Done name_a name_b old new text
+PairGives status.Device name_a name_b old new text = Runs status.Device name_a name_b old new text
+PairGives status.Script name_a name_b old new text =
+    (s : Scripts name_a name_b old.held) × (name : List ℕ) × (line : ℕ) × IsRefusal name_a s.text_a name_b s.text_b name line × (text ≡ script_line name line) × Unbegun old new
+PairGives status.File name_a name_b old new text = Unbegun old new
+    × (IsFileRefusal old.held name_a old.file_faults new.file_faults text
+    ⊎ ((text_a : List ℕ) × Holds old.held name_a text_a × IsFileRefusal old.held name_b old.file_faults new.file_faults text))
+PairGives decided name_a name_b old new text = ⊥
+
+-- a file was read whose frames have this first fault, or none, and this text
+abbrev pub Dumps : Held → List ℕ → Option PeerFault → List ℕ → Type 0
+Dumps held file fault text = (bytes : List ℕ) × Holds held file bytes × (dump_fault bytes ≡ fault) × (text ≡ dump_text bytes)
+
+abbrev pub IsDumped : Status → Held → List ℕ → List ℕ → Type 0
+IsDumped status.Done held file text = Dumps held file None text
+IsDumped status.Peer held file text = (fault : PeerFault) × Dumps held file (Some fault) text
+IsDumped decided held file text = ⊥
+
+-- What comes of a file of frames of this name. No wire is begun.
+abbrev pub DumpGives : Status → List ℕ → Outside → Outside → List ℕ → Type 0
+DumpGives status.File file old new text = IsFileRefusal old.held file old.file_faults new.file_faults text × Unbegun old new
+DumpGives decided file old new text = IsDumped decided old.held file text × Unbegun old new
+
+-- what comes of what was asked for
+abbrev pub Gives : Status → Asked → Outside → Outside → List ℕ → Type 0
+Gives decided (PairOf name_a name_b) old new text = PairGives decided name_a name_b old new text
+Gives decided (DumpOf file) old new text = DumpGives decided file old new text
 
 -- What the program decides on before it writes: a status and a text.
 abbrev pub Decides : Status → List (List ℕ) → Outside → Outside → List ℕ → Type 0
-Decides status.Done words old new text =
-    (s : Scripts words old.held) × (letters : List ℕ) × (bindings : List Binding) × AreAccepted s.text_a s.text_b letters bindings
-    × AreBegun new.ab.begun new.ba.begun × Carries (stream (talk bindings letters)) old.ab.carried new.ab.carried old.ba.carried new.ba.carried
-    × (text ≡ done_report bindings letters)
 Decides status.Words words old new text = (at : ℕ) × IsRefusedAt words at × (text ≡ words_line at) × Unbegun old new × (new.file_faults ≡ old.file_faults)
-Decides status.Script words old new text =
-    (s : Scripts words old.held) × (name : List ℕ) × (line : ℕ) × IsRefusal s.name_a s.text_a s.name_b s.text_b name line × (text ≡ script_line name line) × Unbegun old new
-Decides status.File words old new text =
-    (name_a : List ℕ) × (name_b : List ℕ) × IsPair words name_a name_b × Unbegun old new
-    × (IsFileRefusal old.held name_a old.file_faults new.file_faults text
-    ⊎ ((text_a : List ℕ) × Holds old.held name_a text_a × IsFileRefusal old.held name_b old.file_faults new.file_faults text))
-Decides status.Device words old new text =
-    (s : Scripts words old.held) × (letters : List ℕ) × (bindings : List Binding) × AreAccepted s.text_a s.text_b letters bindings
-    × IsReportedCut bindings letters text old.ab new.ab old.ba new.ba
-    × (Rose old.ab.faults new.ab.faults ⊎ Rose old.ba.faults new.ba.faults)
-Decides status.Output words old new text = ⊥
-Decides status.NoMemory words old new text = ⊥
+Decides decided words old new text = (asked : Asked) × Spells words asked × Gives decided asked old new text
+
+-- memory ran out while two scripts were run
+abbrev pub PairRunsOut : List ℕ → List ℕ → Outside → Outside → Type 0
+PairRunsOut name_a name_b old new =
+    (s : Scripts name_a name_b old.held) × (letters : List ℕ) × (bindings : List Binding) × AreAccepted s.text_a s.text_b letters bindings × IsCutRun bindings letters old.wires new.wires
+
+-- memory ran out in what was asked for: the wires were not touched, or a run was cut short
+abbrev pub AskedRunsOut : Asked → Outside → Outside → Type 0
+AskedRunsOut (PairOf name_a name_b) old new = Unbegun old new ⊎ PairRunsOut name_a name_b old new
+AskedRunsOut (DumpOf file) old new = Unbegun old new
 
 -- Memory ran out before there was a text: the wires were not touched, or a run was cut short.
 abbrev pub RunsOut : List (List ℕ) → Outside → Outside → Type 0
-RunsOut words old new = Unbegun old new
-    ⊎ ((s : Scripts words old.held) × (letters : List ℕ) × (bindings : List Binding) × AreAccepted s.text_a s.text_b letters bindings
-    × IsCutRun bindings letters old.ab new.ab old.ba new.ba)
+RunsOut words old new = Unbegun old new ⊎ ((name_a : List ℕ) × (name_b : List ℕ) × IsPair words name_a name_b × PairRunsOut name_a name_b old new)
 
 -- A text was written whole, or a front of it where the sink's count of faults rose.
 abbrev pub Writes : List ℕ → Option (List ℕ) → ℕ → Option (List ℕ) → ℕ → Type 0

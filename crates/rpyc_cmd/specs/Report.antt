@@ -1,8 +1,8 @@
 -- What the program prints: the report of a pair, and the lines of its refusals.
 use Rattle.std.specs.Fmt.{decimal}
 use Rattle.std.specs.Prelude.{ℕ, if◌then◌else◌, ◌==◌, Bool, true, List, [], ◌∷◌, ◌++◌, length, Option, Some, None, codes}
-use Rattle.rpyc_cmd.specs.declared.report.RunEnd.{RunEnd}
-use Rattle.rpyc_cmd.specs.declared.report.RunEnd.TheVariants as run_end
+use Rattle.pair_run.specs.declared.ends.RunEnd.{RunEnd}
+use Rattle.pair_run.specs.Running.{end_name}
 
 -- a text and a line feed
 abbrev pub line : List ℕ → List ℕ
@@ -21,10 +21,6 @@ whole_lines printed = if ends_line printed then printed else line printed
 -- `B n`, and the n bytes that this side printed
 abbrev pub section : List ℕ → List ℕ → List ℕ
 section side printed = line (side ++ codes " " ++ decimal (length printed)) ++ whole_lines printed
-
-abbrev pub end_name : RunEnd → List ℕ
-end_name run_end.Done = codes "done"
-end_name run_end.Wire = codes "wire"
 
 abbrev pub units_text : Option ℕ → List ℕ
 units_text (Some units) = decimal units

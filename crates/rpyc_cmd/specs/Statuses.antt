@@ -9,5 +9,6 @@ code_of status.Words = 2
 code_of status.Script = 3
 code_of status.File = 4
 code_of status.Device = 8
+code_of status.Peer = 9
 code_of status.Output = 10
 code_of status.NoMemory = 11

@@ -1,31 +1,25 @@
-ghost use Rattle.std.specs.Prelude.{◌≡◌, ◌≤◌, ◌⊎◌, ◌++◌, [], ℕ, List, map, IfOk, IfErr, OnOk, OnErr, IsErrOf, All, IsSome, string_bytes};
-ghost use Rattle.wire_io.specs.Devices.{Rose};
-ghost use Rattle.rpyc_cmd.specs.declared.scripts.Binding.{Binding};
-ghost use Rattle.rpyc_cmd.specs.Deciding.{IfRefused, IfNoMemory, CutAfter, Came, IsDecided, Finished};
-ghost use Rattle.rpyc_cmd.specs.Outcome.{Holds, IsFileRefusal, IsRefusal, AreAccepted, AreBegun, IsCutRun, Decides, RunsOut, Ends, outside, seen};
+ghost use Rattle.std.specs.Prelude.{◌≡◌, ◌≤◌, ℕ, map, IfOk, OnOk, IfErr, OnErr, All, IsSome, ◌⊎◌, string_bytes};
+ghost use Rattle.pair_run.specs.Running.{AreJoined, IsCutRun, wires};
+ghost use Rattle.pair_run.specs.Scripts.{AsksFor, Binds, IsFirstOtherQuestion, IsFirstOtherBinding, IsFirstUnbound, IsLetter, IsBinding, number_of};
+ghost use Rattle.rpyc_cmd.specs.Deciding.{IfRefused, IfNoMemory, RefusesScript, Finished};
+ghost use Rattle.rpyc_cmd.specs.Outcome.{Holds, IsFileRefusal, IsRefusal, AreAccepted, IsDecided, IsDumped, PairGives, PairRunsOut, Gives, AskedRunsOut, Decides, RunsOut, Ends, outside, Unbegun};
 ghost use Rattle.rpyc_cmd.specs.Report.{script_line};
-ghost use Rattle.rpyc_cmd.specs.Scripts.{AsksFor, Binds, IsFirstOtherQuestion, IsFirstOtherBinding, IsFirstUnbound, number_of, Agrees};
-ghost use Rattle.rpyc_cmd.specs.Talk.{AreAnswered, PrintsFirst, Carries, CarriesFront, stream, talk, printed, units_of, IsIdle};
-ghost use Rattle.rpyc_cmd.specs.Words.{IsPair};
+ghost use Rattle.rpyc_cmd.specs.Words.{asked_by};
 
-use crate::delivery::Cut;
-use crate::pair::{SideA, SideB, converse};
-use crate::report::{
-    PairEnd, RunEnd, not_there_text, pair_report, read_fault_text, script_text, words_text,
-};
-use crate::scripts::{Binding, ScriptEnd, bindings, first_unbound, latest, questions};
+use crate::report::{not_there_text, pair_report, read_fault_text, script_text, words_text};
 use crate::status::Status;
-use crate::words::command;
-use channel_frames::Deframer;
-use rp_base::{Blob, NoMemory};
+use crate::words::{Command, read_words};
+use pair_run::{Binding, PairScripts, RunEnd, ScriptEnd, bindings, questions, run_pair};
+use report_text::{Dump, dump};
+use rp_base::{Blob, NoMemory, Text};
 use std::alloc::Global;
-use wire_io::{FileAnswer, Files, Over, Sink, Wire, WireEnd, write_all};
+use wire_io::{FileAnswer, Files, Sink, Wire, WireEnd, write_all};
 
 /// A text to write, and the status that goes with it.
 #[derive(Drop)]
 pub struct Decided {
     pub status: Status,
-    pub text: String,
+    pub text: Text,
 }
 
 /// Why no run was begun.
@@ -45,19 +39,11 @@ impl From<NoMemory> for Stop {
     }
 }
 
-/// Two scripts that are run: the letters that A asks for, and what B binds, line by line and at its end.
-#[derive(Drop)]
-pub struct Accepted {
-    pub letters: Vec<u8>,
-    pub bindings: Vec<Binding>,
-    pub namespace: Vec<Binding>,
-}
-
-/// Reads a script's file.
-fn read_script<F: Files>(alloc: Global, name: &str, files: &mut F) -> Result<Blob, Stop>
+/// Reads a file.
+fn read_file<F: Files>(alloc: Global, name: &str, files: &mut F) -> Result<Blob, Stop>
     ensures read { IfOk result (λ bytes. Holds (F.held files.old) name.now bytes) }
-    ensures refused { IfErr result (λ e. IfRefused e (λ d. (d.status ≡ Status.File)
-        × IsFileRefusal (F.held files.old) name.now (F.fault_count files.old) (F.fault_count files.new) (string_bytes d.text))) }
+    ensures refused { IfErr result (IfRefused (λ decided text. (decided ≡ Status.File)
+        × IsFileRefusal (F.held files.old) name.now (F.fault_count files.old) (F.fault_count files.new) text)) }
     ensures kept { F.held files.new ≡ F.held files.old }
     ensures later { F.fault_count files.old ≤ F.fault_count files.new }
 {
@@ -75,7 +61,7 @@ fn read_script<F: Files>(alloc: Global, name: &str, files: &mut F) -> Result<Blo
 
 /// The refusal of a script at a line.
 fn refusal(alloc: Global, name: &str, line: usize) -> Stop
-    ensures { IfRefused result (λ d. (d.status ≡ Status.Script) × (string_bytes d.text ≡ script_line name.now line)) }
+    ensures { IfRefused (λ decided text. (decided ≡ Status.Script) × (text ≡ script_line name.now line)) result }
 {
     match script_text(alloc, name, line) {
         Ok(text) => Stop::Refused(Decided {
@@ -89,8 +75,7 @@ fn refusal(alloc: Global, name: &str, line: usize) -> Stop
 /// The letters that A's script asks for.
 fn letters_of(alloc: Global, name: &str, text: &[u8]) -> Result<Vec<u8>, Stop>
     ensures asks { IfOk result (λ letters. AsksFor text.now letters.items) }
-    ensures refused { IfErr result (λ e. IfRefused e (λ d. (d.status ≡ Status.Script)
-        × ((line : ℕ) × IsFirstOtherQuestion text.now line × (string_bytes d.text ≡ script_line name.now line)))) }
+    ensures refused { IfErr result (IfRefused (RefusesScript (λ refused line. (refused ≡ name.now) × IsFirstOtherQuestion text.now line))) }
 {
     match questions(alloc, text) {
         Ok(letters) => Ok(letters),
@@ -102,8 +87,7 @@ fn letters_of(alloc: Global, name: &str, text: &[u8]) -> Result<Vec<u8>, Stop>
 /// What B's script binds.
 fn bindings_of(alloc: Global, name: &str, text: &[u8]) -> Result<Vec<Binding>, Stop>
     ensures binds { IfOk result (λ bindings. Binds text.now bindings.items) }
-    ensures refused { IfErr result (λ e. IfRefused e (λ d. (d.status ≡ Status.Script)
-        × ((line : ℕ) × IsFirstOtherBinding text.now line × (string_bytes d.text ≡ script_line name.now line)))) }
+    ensures refused { IfErr result (IfRefused (RefusesScript (λ refused line. (refused ≡ name.now) × IsFirstOtherBinding text.now line))) }
 {
     match bindings(alloc, text) {
         Ok(bindings) => Ok(bindings),
@@ -112,15 +96,24 @@ fn bindings_of(alloc: Global, name: &str, text: &[u8]) -> Result<Vec<Binding>, S
     }
 }
 
-/// Whether each letter that A asks for is bound.
-fn check_bound(alloc: Global, name: &str, letters: &[u8], bindings: &[Binding]) -> Result<(), Stop>
-    ensures bound { OnOk result (All (λ letter. IsSome (number_of bindings.now letter)) letters.now) }
-    ensures refused { IfErr result (λ e. IfRefused e (λ d. (d.status ≡ Status.Script)
-        × ((line : ℕ) × IsFirstUnbound bindings.now letters.now line × (string_bytes d.text ≡ script_line name.now line)))) }
+/// Joins what A asks for and what B binds.
+fn join(
+    alloc: Global,
+    name: &str,
+    letters: Vec<u8>,
+    bindings: Vec<Binding>,
+) -> Result<PairScripts, Stop>
+    requires letters { All IsLetter letters.items }
+    requires bindings { All IsBinding bindings.items }
+    ensures kept { IfOk result (λ s. (s.letters.items ≡ letters.items) × (s.bindings.items ≡ bindings.items)) }
+    ensures bound { OnOk result (All (λ letter. IsSome (number_of bindings.items letter)) letters.items) }
+    ensures joined { IfOk result (λ s. AreJoined s.letters.items s.bindings.items s.namespace.items) }
+    ensures refused { IfErr result (IfRefused (RefusesScript (λ refused line. (refused ≡ name.now) × IsFirstUnbound bindings.items letters.items line))) }
 {
-    match first_unbound(bindings, letters) {
-        Some(line) => Err(refusal(alloc, name, line)),
-        None => Ok(()),
+    match PairScripts::new(alloc, letters, bindings) {
+        Ok(scripts) => Ok(scripts),
+        Err(ScriptEnd::NotYet(line)) => Err(refusal(alloc, name, line)),
+        Err(ScriptEnd::NoMemory) => Err(Stop::NoMemory),
     }
 }
 
@@ -131,128 +124,31 @@ fn accept(
     text_a: &[u8],
     name_b: &str,
     text_b: &[u8],
-) -> Result<Accepted, Stop>
+) -> Result<PairScripts, Stop>
     ensures accepted { IfOk result (λ s. AreAccepted text_a.now text_b.now s.letters.items s.bindings.items) }
-    ensures agrees { IfOk result (λ s. Agrees s.namespace.items s.bindings.items) }
-    ensures refused { IfErr result (λ e. IfRefused e (λ d. (d.status ≡ Status.Script)
-        × ((name : List ℕ) × (line : ℕ) × IsRefusal name_a.now text_a.now name_b.now text_b.now name line × (string_bytes d.text ≡ script_line name line)))) }
+    ensures joined { IfOk result (λ s. AreJoined s.letters.items s.bindings.items s.namespace.items) }
+    ensures refused { IfErr result (IfRefused (RefusesScript (IsRefusal name_a.now text_a.now name_b.now text_b.now))) }
 {
     let letters = letters_of(alloc, name_a, text_a)?;
     let bindings = bindings_of(alloc, name_b, text_b)?;
-    let namespace = latest(alloc, &bindings)?;
-    match check_bound(alloc, name_a, &letters, &namespace) {
-        Ok(()) => Ok(Accepted {
-            letters,
-            bindings,
-            namespace,
-        }),
+    match join(alloc, name_a, letters, bindings) {
+        Ok(scripts) => Ok(scripts),
         Err(stop) => Err(stop),
-    }
-}
-
-/// Begins both wires, A's first, and has the conversation.
-fn begin_and_converse<W: Wire>(
-    alloc: Global,
-    letters: &[u8],
-    a: &mut SideA,
-    b: &mut SideB,
-    ab: &mut W,
-    ba: &mut W,
-) -> Result<(), Cut>
-    requires answered { AreAnswered b.old.bindings.items letters.now }
-    requires idle { (a.old.inbox ≡ []) × (b.old.inbox ≡ []) }
-    ensures printed { OnOk result (string_bytes a.new.output ≡ string_bytes a.old.output ++ printed b.old.bindings.items letters.now) }
-    ensures begun { OnOk result (AreBegun (W.begun ab.new) (W.begun ba.new)) }
-    ensures carried { OnOk result (Carries (stream (talk b.old.bindings.items letters.now)) (W.carried ab.old) (W.carried ab.new) (W.carried ba.old) (W.carried ba.new)) }
-    ensures cut { IsErrOf result Cut.Wire → CutAfter b.old.bindings.items letters.now (string_bytes a.old.output) (string_bytes a.new.output)
-        (seen (W.carried ab.old) (W.begun ab.old) (W.fault_count ab.old)) (seen (W.carried ab.new) (W.begun ab.new) (W.fault_count ab.new)) (seen (W.carried ba.old) (W.begun ba.old) (W.fault_count ba.old)) (seen (W.carried ba.new) (W.begun ba.new) (W.fault_count ba.new)) }
-    ensures part { OnErr result (IsCutRun b.old.bindings.items letters.now
-        (seen (W.carried ab.old) (W.begun ab.old) (W.fault_count ab.old)) (seen (W.carried ab.new) (W.begun ab.new) (W.fault_count ab.new)) (seen (W.carried ba.old) (W.begun ba.old) (W.fault_count ba.old)) (seen (W.carried ba.new) (W.begun ba.new) (W.fault_count ba.new))) }
-    ensures later { (W.fault_count ab.old ≤ W.fault_count ab.new) × (W.fault_count ba.old ≤ W.fault_count ba.new) }
-    ensures failed { IsErrOf result Cut.Wire → (Rose (W.fault_count ab.old) (W.fault_count ab.new)) ⊎ (Rose (W.fault_count ba.old) (W.fault_count ba.new)) }
-{
-    ab.begin(Over::Memory)?;
-    ba.begin(Over::Memory)?;
-    converse(alloc, letters, a, b, ab, ba)?;
-    Ok(())
-}
-
-/// The units of a run: 2 for each line of B, 2 to make `conn`, 8 for each line of A.
-fn units(bindings: &[Binding], letters: &[u8]) -> u128
-    ensures { result ≡ units_of bindings.now letters.now }
-{
-    2 * bindings.len() as u128 + 2 + 8 * letters.len() as u128
-}
-
-/// Runs a pair over two wires.
-fn run_pair<W: Wire>(
-    alloc: Global,
-    accepted: Accepted,
-    ab: &mut W,
-    ba: &mut W,
-) -> Result<PairEnd, NoMemory>
-    requires answered { AreAnswered accepted.bindings.items accepted.letters.items }
-    requires agrees { Agrees accepted.namespace.items accepted.bindings.items }
-    ensures came { IfOk result (λ e. Came e.end accepted.bindings.items accepted.letters.items (string_bytes e.out_a) e.units e.tables
-        (seen (W.carried ab.old) (W.begun ab.old) (W.fault_count ab.old)) (seen (W.carried ab.new) (W.begun ab.new) (W.fault_count ab.new)) (seen (W.carried ba.old) (W.begun ba.old) (W.fault_count ba.old)) (seen (W.carried ba.new) (W.begun ba.new) (W.fault_count ba.new))) }
-    ensures silent { IfOk result (λ e. string_bytes e.out_b ≡ []) }
-    ensures part { OnErr result (IsCutRun accepted.bindings.items accepted.letters.items
-        (seen (W.carried ab.old) (W.begun ab.old) (W.fault_count ab.old)) (seen (W.carried ab.new) (W.begun ab.new) (W.fault_count ab.new)) (seen (W.carried ba.old) (W.begun ba.old) (W.fault_count ba.old)) (seen (W.carried ba.new) (W.begun ba.new) (W.fault_count ba.new))) }
-{
-    let Accepted {
-        letters,
-        bindings,
-        namespace,
-    } = accepted;
-    let units = units(&bindings, &letters);
-    let mut a = SideA {
-        inbox: Deframer::new(alloc),
-        output: String::new(alloc),
-    };
-    let mut b = SideB {
-        inbox: Deframer::new(alloc),
-        bindings: namespace,
-    };
-    match begin_and_converse(alloc, &letters, &mut a, &mut b, ab, ba) {
-        Ok(()) => {
-            let SideA { inbox: _, output } = a;
-            Ok(PairEnd {
-                end: RunEnd::Done,
-                out_a: output,
-                out_b: String::new(alloc),
-                units: Some(units),
-                tables: Some((0, 2)),
-            })
-        }
-        Err(Cut::Wire) => {
-            let SideA { inbox: _, output } = a;
-            Ok(PairEnd {
-                end: RunEnd::Wire,
-                out_a: output,
-                out_b: String::new(alloc),
-                units: None,
-                tables: None,
-            })
-        }
-        Err(Cut::NoMemory) => Err(NoMemory),
     }
 }
 
 /// Runs two scripts, and writes their report.
 fn decide_run<W: Wire>(
     alloc: Global,
-    accepted: Accepted,
+    scripts: PairScripts,
     ab: &mut W,
     ba: &mut W,
 ) -> Result<Decided, NoMemory>
-    requires answered { AreAnswered accepted.bindings.items accepted.letters.items }
-    requires agrees { Agrees accepted.namespace.items accepted.bindings.items }
-    ensures decided { IfOk result (λ d. IsDecided d.status accepted.bindings.items accepted.letters.items (string_bytes d.text)
-        (seen (W.carried ab.old) (W.begun ab.old) (W.fault_count ab.old)) (seen (W.carried ab.new) (W.begun ab.new) (W.fault_count ab.new)) (seen (W.carried ba.old) (W.begun ba.old) (W.fault_count ba.old)) (seen (W.carried ba.new) (W.begun ba.new) (W.fault_count ba.new))) }
-    ensures part { OnErr result (IsCutRun accepted.bindings.items accepted.letters.items
-        (seen (W.carried ab.old) (W.begun ab.old) (W.fault_count ab.old)) (seen (W.carried ab.new) (W.begun ab.new) (W.fault_count ab.new)) (seen (W.carried ba.old) (W.begun ba.old) (W.fault_count ba.old)) (seen (W.carried ba.new) (W.begun ba.new) (W.fault_count ba.new))) }
+    requires { AreJoined scripts.letters.items scripts.bindings.items scripts.namespace.items }
+    ensures decided { IfOk result (λ d. IsDecided d.status scripts.bindings.items scripts.letters.items d.text (wires W.carried W.begun W.fault_count ab.old ba.old) (wires W.carried W.begun W.fault_count ab.new ba.new)) }
+    ensures part { OnErr result (IsCutRun scripts.bindings.items scripts.letters.items (wires W.carried W.begun W.fault_count ab.old ba.old) (wires W.carried W.begun W.fault_count ab.new ba.new)) }
 {
-    let e = run_pair(alloc, accepted, ab, ba)?;
+    let e = run_pair(alloc, scripts, ab, ba)?;
     let text = pair_report(alloc, &e)?;
     match e.end {
         RunEnd::Done => Ok(Decided {
@@ -275,25 +171,59 @@ fn decide_pair<F: Files, W: Wire>(
     ab: &mut W,
     ba: &mut W,
 ) -> Result<Decided, Stop>
-    ensures decided { (words : List (List ℕ)) → IsPair words name_a.now name_b.now → IfOk result (λ d. Decides d.status words
-        (outside (F.held files.old) (F.fault_count files.old) (seen (W.carried ab.old) (W.begun ab.old) (W.fault_count ab.old)) (seen (W.carried ba.old) (W.begun ba.old) (W.fault_count ba.old)))
-        (outside (F.held files.new) (F.fault_count files.new) (seen (W.carried ab.new) (W.begun ab.new) (W.fault_count ab.new)) (seen (W.carried ba.new) (W.begun ba.new) (W.fault_count ba.new))) (string_bytes d.text)) }
-    ensures refused { (words : List (List ℕ)) → IsPair words name_a.now name_b.now → IfErr result (λ e. IfRefused e (λ d. Decides d.status words
-        (outside (F.held files.old) (F.fault_count files.old) (seen (W.carried ab.old) (W.begun ab.old) (W.fault_count ab.old)) (seen (W.carried ba.old) (W.begun ba.old) (W.fault_count ba.old)))
-        (outside (F.held files.new) (F.fault_count files.new) (seen (W.carried ab.new) (W.begun ab.new) (W.fault_count ab.new)) (seen (W.carried ba.new) (W.begun ba.new) (W.fault_count ba.new))) (string_bytes d.text))) }
-    ensures cut { (words : List (List ℕ)) → IsPair words name_a.now name_b.now → IfErr result (λ e. IfNoMemory e (RunsOut words
-        (outside (F.held files.old) (F.fault_count files.old) (seen (W.carried ab.old) (W.begun ab.old) (W.fault_count ab.old)) (seen (W.carried ba.old) (W.begun ba.old) (W.fault_count ba.old)))
-        (outside (F.held files.new) (F.fault_count files.new) (seen (W.carried ab.new) (W.begun ab.new) (W.fault_count ab.new)) (seen (W.carried ba.new) (W.begun ba.new) (W.fault_count ba.new))))) }
+    ensures decided { IfOk result (λ d. PairGives d.status name_a.now name_b.now (outside F.held F.fault_count W.carried W.begun W.fault_count files.old ab.old ba.old) (outside F.held F.fault_count W.carried W.begun W.fault_count files.new ab.new ba.new) d.text) }
+    ensures refused { IfErr result (IfRefused (λ decided text. PairGives decided name_a.now name_b.now (outside F.held F.fault_count W.carried W.begun W.fault_count files.old ab.old ba.old) (outside F.held F.fault_count W.carried W.begun W.fault_count files.new ab.new ba.new) text)) }
+    ensures cut { IfErr result (IfNoMemory (Unbegun (outside F.held F.fault_count W.carried W.begun W.fault_count files.old ab.old ba.old) (outside F.held F.fault_count W.carried W.begun W.fault_count files.new ab.new ba.new) ⊎ PairRunsOut name_a.now name_b.now (outside F.held F.fault_count W.carried W.begun W.fault_count files.old ab.old ba.old) (outside F.held F.fault_count W.carried W.begun W.fault_count files.new ab.new ba.new))) }
     ensures kept { F.held files.new ≡ F.held files.old }
 {
-    let text_a = read_script(alloc, name_a, files)?;
-    let text_b = read_script(alloc, name_b, files)?;
+    let text_a = read_file(alloc, name_a, files)?;
+    let text_b = read_file(alloc, name_b, files)?;
     match accept(alloc, name_a, text_a.as_slice(), name_b, text_b.as_slice()) {
-        Ok(accepted) => match decide_run(alloc, accepted, ab, ba) {
+        Ok(scripts) => match decide_run(alloc, scripts, ab, ba) {
             Ok(decided) => Ok(decided),
             Err(NoMemory) => Err(Stop::NoMemory),
         },
         Err(stop) => Err(stop),
+    }
+}
+
+/// Reads a file of frames, and writes them as text.
+fn decide_dump<F: Files>(alloc: Global, name: &str, files: &mut F) -> Result<Decided, Stop>
+    ensures decided { IfOk result (λ d. IsDumped d.status (F.held files.old) name.now d.text) }
+    ensures refused { IfErr result (IfRefused (λ decided text. (decided ≡ Status.File)
+        × IsFileRefusal (F.held files.old) name.now (F.fault_count files.old) (F.fault_count files.new) text)) }
+    ensures kept { F.held files.new ≡ F.held files.old }
+{
+    let bytes = read_file(alloc, name, files)?;
+    let Dump { text, fault } = dump(alloc, bytes.as_slice())?;
+    match fault {
+        None => Ok(Decided {
+            status: Status::Done,
+            text,
+        }),
+        Some(_) => Ok(Decided {
+            status: Status::Peer,
+            text,
+        }),
+    }
+}
+
+/// Does what a command asks for.
+fn decide_command<F: Files, W: Wire>(
+    alloc: Global,
+    command: Command<'_>,
+    files: &mut F,
+    ab: &mut W,
+    ba: &mut W,
+) -> Result<Decided, Stop>
+    ensures decided { IfOk result (λ d. Gives d.status (asked_by command.entry) (outside F.held F.fault_count W.carried W.begun W.fault_count files.old ab.old ba.old) (outside F.held F.fault_count W.carried W.begun W.fault_count files.new ab.new ba.new) d.text) }
+    ensures refused { IfErr result (IfRefused (λ decided text. Gives decided (asked_by command.entry) (outside F.held F.fault_count W.carried W.begun W.fault_count files.old ab.old ba.old) (outside F.held F.fault_count W.carried W.begun W.fault_count files.new ab.new ba.new) text)) }
+    ensures cut { IfErr result (IfNoMemory (AskedRunsOut (asked_by command.entry) (outside F.held F.fault_count W.carried W.begun W.fault_count files.old ab.old ba.old) (outside F.held F.fault_count W.carried W.begun W.fault_count files.new ab.new ba.new))) }
+    ensures kept { F.held files.new ≡ F.held files.old }
+{
+    match command {
+        Command::Pair { a, b } => decide_pair(alloc, a, b, files, ab, ba),
+        Command::Dump { file } => decide_dump(alloc, file, files),
     }
 }
 
@@ -305,16 +235,12 @@ fn decide<F: Files, W: Wire>(
     ab: &mut W,
     ba: &mut W,
 ) -> Result<Decided, NoMemory>
-    ensures decided { IfOk result (λ d. Decides d.status (map string_bytes words.now)
-        (outside (F.held files.old) (F.fault_count files.old) (seen (W.carried ab.old) (W.begun ab.old) (W.fault_count ab.old)) (seen (W.carried ba.old) (W.begun ba.old) (W.fault_count ba.old)))
-        (outside (F.held files.new) (F.fault_count files.new) (seen (W.carried ab.new) (W.begun ab.new) (W.fault_count ab.new)) (seen (W.carried ba.new) (W.begun ba.new) (W.fault_count ba.new))) (string_bytes d.text)) }
-    ensures cut { OnErr result (RunsOut (map string_bytes words.now)
-        (outside (F.held files.old) (F.fault_count files.old) (seen (W.carried ab.old) (W.begun ab.old) (W.fault_count ab.old)) (seen (W.carried ba.old) (W.begun ba.old) (W.fault_count ba.old)))
-        (outside (F.held files.new) (F.fault_count files.new) (seen (W.carried ab.new) (W.begun ab.new) (W.fault_count ab.new)) (seen (W.carried ba.new) (W.begun ba.new) (W.fault_count ba.new)))) }
+    ensures decided { IfOk result (λ d. Decides d.status (map string_bytes words.now) (outside F.held F.fault_count W.carried W.begun W.fault_count files.old ab.old ba.old) (outside F.held F.fault_count W.carried W.begun W.fault_count files.new ab.new ba.new) d.text) }
+    ensures cut { OnErr result (RunsOut (map string_bytes words.now) (outside F.held F.fault_count W.carried W.begun W.fault_count files.old ab.old ba.old) (outside F.held F.fault_count W.carried W.begun W.fault_count files.new ab.new ba.new)) }
     ensures kept { F.held files.new ≡ F.held files.old }
 {
-    match command(words) {
-        Ok(pair) => match decide_pair(alloc, pair.a, pair.b, files, ab, ba) {
+    match read_words(words) {
+        Ok(command) => match decide_command(alloc, command, files, ab, ba) {
             Ok(decided) => Ok(decided),
             Err(Stop::Refused(decided)) => Ok(decided),
             Err(Stop::NoMemory) => Err(NoMemory),
@@ -328,9 +254,9 @@ fn decide<F: Files, W: Wire>(
 
 /// Writes the text that was decided on.
 fn finish<K: Sink>(decided: &Decided, out: &mut K) -> Status
-    ensures { Finished decided.now.status result (string_bytes decided.now.text) (K.told out.old) (K.fault_count out.old) (K.told out.new) (K.fault_count out.new) }
+    ensures { Finished decided.now.status result decided.now.text (K.told out.old) (K.fault_count out.old) (K.told out.new) (K.fault_count out.new) }
 {
-    match write_all(out, decided.text.as_bytes()) {
+    match write_all(out, decided.text.as_str().as_bytes()) {
         Ok(()) => decided.status,
         Err(WireEnd::NoMemory) => Status::NoMemory,
         Err(WireEnd::Failed) => match decided.status {
@@ -340,7 +266,7 @@ fn finish<K: Sink>(decided: &Decided, out: &mut K) -> Status
     }
 }
 
-/// All that the program does: reads the words, runs the pair, and writes what came of it.
+/// All that the program does: reads the words, runs the pair or reads the frames, and writes what came of it.
 ///
 /// Everything that is written goes to `out`. The two wires are those from A to B and from B to A; they are begun in
 /// this order, after all refusals and before the run.
@@ -352,10 +278,7 @@ pub fn run_cmd<F: Files, K: Sink, W: Wire>(
     ab: &mut W,
     ba: &mut W,
 ) -> Status
-    ensures ends { Ends result (map string_bytes words.now)
-        (outside (F.held files.old) (F.fault_count files.old) (seen (W.carried ab.old) (W.begun ab.old) (W.fault_count ab.old)) (seen (W.carried ba.old) (W.begun ba.old) (W.fault_count ba.old)))
-        (outside (F.held files.new) (F.fault_count files.new) (seen (W.carried ab.new) (W.begun ab.new) (W.fault_count ab.new)) (seen (W.carried ba.new) (W.begun ba.new) (W.fault_count ba.new)))
-        (K.told out.old) (K.fault_count out.old) (K.told out.new) (K.fault_count out.new) }
+    ensures ends { Ends result (map string_bytes words.now) (outside F.held F.fault_count W.carried W.begun W.fault_count files.old ab.old ba.old) (outside F.held F.fault_count W.carried W.begun W.fault_count files.new ab.new ba.new) (K.told out.old) (K.fault_count out.old) (K.told out.new) (K.fault_count out.new) }
     ensures kept { F.held files.new ≡ F.held files.old }
 {
     match decide(alloc, words, files, ab, ba) {

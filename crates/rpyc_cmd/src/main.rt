@@ -1,12 +1,9 @@
-//! The program `rpyc`: runs two scripts as a pair over two byte wires, and reports what they did.
+//! The program `rpyc`: runs two scripts as a pair over two byte wires and reports what they did, or writes a file of
+//! frames as text.
 #![tactic(auto)]
 
 mod decide;
-mod delivery;
-mod messages;
-mod pair;
 mod report;
-mod scripts;
 mod status;
 #[cfg(test)]
 mod tests;

@@ -1,47 +1,13 @@
 ghost use Rattle.std.specs.Prelude.{◌≡◌, ◌++◌, IfOk, OnOk, codes, string_bytes};
-ghost use Rattle.rpyc_cmd.specs.Report.{line, ends_line, section, end_name, units_text, tables_text, report, words_line, script_line, not_there_line, read_fault_line};
+ghost use Rattle.rpyc_cmd.specs.Report.{line, ends_line, section, units_text, tables_text, report, words_line, script_line, not_there_line, read_fault_line};
 
-use rp_base::{NoMemory, Rule};
+use pair_run::PairEnd;
+use rp_base::{NoMemory, Rule, Text};
 use std::alloc::{AllocError, Global};
 
-/// How a run of a pair ended in this stage.
-#[derive(Clone, Copy, Debug, PartialEq, Eq)]
-pub enum RunEnd {
-    /// Both sides finished.
-    Done,
-    /// A wire failed.
-    Wire,
-}
-
-/// What a run of a pair came to.
-#[derive(Drop)]
-pub struct PairEnd {
-    pub end: RunEnd,
-    /// What A printed.
-    pub out_a: String,
-    /// What B printed.
-    pub out_b: String,
-    /// The units that were spent, or none where the run was cut short.
-    pub units: Option<u128>,
-    /// The numbers of entries in A's and in B's table at the end, or none where the run was cut short.
-    pub tables: Option<(u64, u64)>,
-}
-
-impl RunEnd {
-    /// The printed name.
-    pub fn text(&self) -> &str
-        ensures { result.now ≡ end_name self.now }
-    {
-        match self {
-            RunEnd::Done => "done",
-            RunEnd::Wire => "wire",
-        }
-    }
-}
-
 /// The report of a pair.
-pub fn pair_report(alloc: Global, e: &PairEnd) -> Result<String, NoMemory>
-    ensures { IfOk result (λ text. string_bytes text ≡ report e.now.end (string_bytes e.now.out_b) (string_bytes e.now.out_a) e.now.units e.now.tables) }
+pub fn pair_report(alloc: Global, e: &PairEnd) -> Result<Text, NoMemory>
+    ensures { IfOk result (λ text. text ≡ report e.now.end (string_bytes e.now.out_b) (string_bytes e.now.out_a) e.now.units e.now.tables) }
 {
     let mut text = String::new(alloc);
     push_section(&mut text, "B", e.out_b.as_str())?;
@@ -50,7 +16,7 @@ pub fn pair_report(alloc: Global, e: &PairEnd) -> Result<String, NoMemory>
     write!(text, "end {end}\n")?;
     push_units(&mut text, e.units)?;
     push_tables(&mut text, e.tables)?;
-    Ok(text)
+    Ok(Text::from_string(text))
 }
 
 fn push_section(text: &mut String, side: &str, printed: &str) -> Result<(), AllocError>
@@ -93,31 +59,31 @@ fn push_tables(text: &mut String, tables: Option<(u64, u64)>) -> Result<(), Allo
 }
 
 /// The line of a refusal of the command line: the index of the word that it stops at.
-pub fn words_text(alloc: Global, at: usize) -> Result<String, NoMemory>
-    ensures { IfOk result (λ text. string_bytes text ≡ words_line at) }
+pub fn words_text(alloc: Global, at: usize) -> Result<Text, NoMemory>
+    ensures { IfOk result (λ text. text ≡ words_line at) }
 {
-    Ok(format!(in alloc; "rpyc: words at {at}\n")?)
+    Ok(Text::from_string(format!(in alloc; "rpyc: words at {at}\n")?))
 }
 
 /// The line of a refusal of a script: the file's name, and the line, counted from 1.
-pub fn script_text(alloc: Global, name: &str, line: usize) -> Result<String, NoMemory>
-    ensures { IfOk result (λ text. string_bytes text ≡ script_line name.now line) }
+pub fn script_text(alloc: Global, name: &str, line: usize) -> Result<Text, NoMemory>
+    ensures { IfOk result (λ text. text ≡ script_line name.now line) }
 {
     let rule = Rule::NotYet;
     let code = rule.text();
-    Ok(format!(in alloc; "rpyc: {name} line {line} rule {code}\n")?)
+    Ok(Text::from_string(format!(in alloc; "rpyc: {name} line {line} rule {code}\n")?))
 }
 
 /// The line of a file that is not there.
-pub fn not_there_text(alloc: Global, name: &str) -> Result<String, NoMemory>
-    ensures { IfOk result (λ text. string_bytes text ≡ not_there_line name.now) }
+pub fn not_there_text(alloc: Global, name: &str) -> Result<Text, NoMemory>
+    ensures { IfOk result (λ text. text ≡ not_there_line name.now) }
 {
-    Ok(format!(in alloc; "rpyc: {name} not there\n")?)
+    Ok(Text::from_string(format!(in alloc; "rpyc: {name} not there\n")?))
 }
 
 /// The line of a file that could not be read.
-pub fn read_fault_text(alloc: Global, name: &str) -> Result<String, NoMemory>
-    ensures { IfOk result (λ text. string_bytes text ≡ read_fault_line name.now) }
+pub fn read_fault_text(alloc: Global, name: &str) -> Result<Text, NoMemory>
+    ensures { IfOk result (λ text. text ≡ read_fault_line name.now) }
 {
-    Ok(format!(in alloc; "rpyc: {name} read fault\n")?)
+    Ok(Text::from_string(format!(in alloc; "rpyc: {name} read fault\n")?))
 }

@@ -14,6 +14,8 @@ pub enum Status {
     File,
     /// A wire failed.
     Device,
+    /// The file of frames has a fault, and its text was written.
+    Peer,
     /// The output failed: what it took is a front of the text.
     Output,
     /// There was no memory: nothing more was written.
@@ -31,6 +33,7 @@ impl Status {
             Status::Script => 3,
             Status::File => 4,
             Status::Device => 8,
+            Status::Peer => 9,
             Status::Output => 10,
             Status::NoMemory => 11,
         }

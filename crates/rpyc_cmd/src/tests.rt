@@ -1,13 +1,9 @@
-ghost use Rattle.std.specs.Prelude.{min, ◌+◌, ◌-◌, ◌^◌};
-ghost use Rattle.wire_io.specs.Devices.{Rose};
-
 use crate::decide::run_cmd;
 use crate::status::Status;
-use rp_base::Failed;
 use std::alloc::{AllocError, Global};
 use std::process::Abort;
 use std::test::Fail;
-use wire_io::{MemFiles, MemSink, MemWire, Over, Wire, WireEnd};
+use wire_io::{MemFiles, MemSink, MemWire};
 
 const A: &[u8] = b"print(conn.namespace[\"x\"])\n";
 
@@ -69,37 +65,12 @@ fn check(
 }
 
 #[test]
-fn the_first_pair_and_its_frames(rt: HostRuntime) -> Result<(), Fail> {
+fn the_first_pair(rt: HostRuntime) -> Result<(), Fail> {
     let alloc = rt.alloc();
     let mut devices = make_devices(alloc, A, B)?;
     let ended = run(alloc, &["pair", "a.py", "b.py"], &mut devices)?;
     assert_eq!(rt; ended, Status::Done);
     assert_eq!(rt; devices.out.taken(), REPORT.as_bytes());
-    let mut sent = Vec::new(alloc);
-    sent.extend_from_slice(b"\x00\x00\x00\x08\x00\x12\x51\x50\x11\x53\x11\x51\x02\x0a")?;
-    sent.extend_from_slice(
-        b"\x00\x00\x00\x3c\x00\x12\x51\x51\x11\x54\x11\x52\x11\x11\x53\x12\x08\x0e\x1e",
-    )?;
-    sent.extend_from_slice(
-        b"rpyc.core.service.SlaveService\x50\x52\x11\x51\x08\x0e\x09namespace\x0a",
-    )?;
-    sent.extend_from_slice(
-        b"\x00\x00\x00\x36\x00\x12\x51\x52\x11\x58\x11\x52\x13\x11\x53\x12\x08\x0e\x0dbuiltins.dict\x50\x51",
-    )?;
-    sent.extend_from_slice(
-        b"\x11\x51\x08\x0e\x0b__getitem__\x11\x51\x10\x08\x0a\x78\x11\x51\x02\x0a",
-    )?;
-    sent.extend_from_slice(b"\x00\x00\x00\x08\x00\x12\x51\x53\x11\x52\x11\x51\x02\x0a")?;
-    assert_eq!(rt; devices.ab.carried(), sent.as_slice());
-    let mut answered = Vec::new(alloc);
-    answered.extend_from_slice(
-        b"\x00\x00\x00\x29\x00\x12\x52\x50\x11\x54\x12\x08\x0e\x1erpyc.core.service.SlaveService\x50\x52\x0a",
-    )?;
-    answered.extend_from_slice(
-        b"\x00\x00\x00\x18\x00\x12\x52\x51\x11\x54\x12\x08\x0e\x0dbuiltins.dict\x50\x51\x0a",
-    )?;
-    answered.extend_from_slice(b"\x00\x00\x00\x06\x00\x12\x52\x52\x11\x51\x55\x0a")?;
-    assert_eq!(rt; devices.ba.carried(), answered.as_slice());
     Ok(())
 }
 
@@ -223,6 +194,49 @@ fn words_and_files(rt: HostRuntime) -> Result<(), Fail> {
     Ok(())
 }
 
+/// A frame that asks for the root.
+const ROOT: &[u8] = b"\x00\x00\x00\x08\x00\x12\x51\x50\x11\x53\x11\x51\x02\x0a";
+
+/// The same, and a frame whose data are compressed.
+const COMPRESSED: &[u8] =
+    b"\x00\x00\x00\x08\x00\x12\x51\x50\x11\x53\x11\x51\x02\x0a\x00\x00\x00\x01\x01";
+
+/// The words, the status of their run, and what it writes.
+type Call = (&'static [&'static str], Status, &'static str);
+
+#[test]
+fn files_of_frames(rt: HostRuntime) -> Result<(), Fail> {
+    let alloc = rt.alloc();
+    let calls: [Call; 6] = [
+        (
+            &["dump", "a.py"],
+            Status::Done,
+            "request 0 GETROOT (1, ())\n",
+        ),
+        (
+            &["dump", "b.py"],
+            Status::Peer,
+            "request 0 GETROOT (1, ())\nfault F2 18\n",
+        ),
+        (&["dump", "gone"], Status::File, "rpyc: gone not there\n"),
+        (&["dump"], Status::Words, "rpyc: words at 1\n"),
+        (
+            &["dump", "a.py", "b.py"],
+            Status::Words,
+            "rpyc: words at 2\n",
+        ),
+        (&["show", "a.py"], Status::Words, "rpyc: words at 0\n"),
+    ];
+    for (words, status, text) in calls {
+        let mut devices = make_devices(alloc, ROOT, COMPRESSED)?;
+        let ended = run(alloc, words, &mut devices)?;
+        assert_eq!(rt; ended, status);
+        assert_eq!(rt; devices.out.taken(), text.as_bytes());
+        assert!(rt; devices.ab.begun().is_none() && devices.ba.begun().is_none());
+    }
+    Ok(())
+}
+
 #[test]
 fn devices_that_fail(rt: HostRuntime) -> Result<(), Fail> {
     let alloc = rt.alloc();
@@ -245,102 +259,5 @@ fn devices_that_fail(rt: HostRuntime) -> Result<(), Fail> {
     let ended = run(alloc, &["pair", "a.py", "b.py"], &mut full)?;
     assert_eq!(rt; ended, Status::Output);
     assert_eq!(rt; full.out.taken(), b"B 0\nA 2\n5\n".as_slice());
-    Ok(())
-}
-
-/// A wire in memory that may fail to begin.
-#[derive(Drop)]
-struct Beginning {
-    wire: MemWire,
-    begins: bool,
-    failed: u64,
-}
-
-impl Wire for Beginning {
-    ghost carried = { λ s. ⟦<MemWire as Wire>⟧.carried s.wire };
-
-    ghost queue = { λ s. ⟦<MemWire as Wire>⟧.queue s.wire };
-
-    ghost space = { λ s. ⟦<MemWire as Wire>⟧.space s.wire };
-
-    ghost begun = { λ s. ⟦<MemWire as Wire>⟧.begun s.wire };
-
-    ghost fault_count = { λ s. min (⟦<MemWire as Wire>⟧.fault_count s.wire + s.failed) (2 ^ 64 - 1) };
-
-    fn faults(&self) -> u64 {
-        self.wire.faults().saturating_add(self.failed)
-    }
-
-    fn begin(&mut self, over: Over) -> Result<(), Failed> {
-        if self.begins {
-            self.wire.begin(over)
-        } else {
-            self.failed = self.failed.saturating_add(1);
-            Err(Failed)
-        }
-    }
-
-    fn room(&self) -> usize {
-        self.wire.room()
-    }
-
-    fn queued(&self) -> usize {
-        self.wire.queued()
-    }
-
-    fn put(&mut self, piece: &[u8]) -> Result<usize, WireEnd> {
-        self.wire.put(piece)
-    }
-
-    fn get(&mut self, alloc: Global, max: usize) -> Result<Vec<u8>, WireEnd> {
-        self.wire.get(alloc, max)
-    }
-}
-
-/// Runs the first pair over two wires, of which one or both begin.
-fn run_over(
-    rt: &impl Abort,
-    alloc: Global,
-    begins_ab: bool,
-    begins_ba: bool,
-) -> Result<(), AllocError> {
-    let mut devices = make_devices(alloc, A, B)?;
-    let mut ab = Beginning {
-        wire: MemWire::new(alloc, 64, Vec::new(alloc)),
-        begins: begins_ab,
-        failed: 0,
-    };
-    let mut ba = Beginning {
-        wire: MemWire::new(alloc, 64, Vec::new(alloc)),
-        begins: begins_ba,
-        failed: 0,
-    };
-    let mut words = Vec::new(alloc);
-    for word in ["pair", "a.py", "b.py"] {
-        words.push(String::from_str(alloc, word)?)?;
-    }
-    let ended = run_cmd(
-        alloc,
-        &words,
-        &mut devices.files,
-        &mut devices.out,
-        &mut ab,
-        &mut ba,
-    );
-    assert_eq!(rt; ended, Status::Device);
-    assert_eq!(rt;
-        devices.out.taken(),
-        b"B 0\nA 0\nend wire\nunits -\ntables -\n".as_slice()
-    );
-    assert!(rt; ab.wire.carried().is_empty() && ba.wire.carried().is_empty());
-    assert!(rt; ab.wire.begun().is_some() == begins_ab && ba.wire.begun().is_none());
-    Ok(())
-}
-
-#[test]
-fn wires_that_do_not_begin(rt: HostRuntime) -> Result<(), Fail> {
-    let alloc = rt.alloc();
-    run_over(&rt, alloc, false, true)?;
-    run_over(&rt, alloc, true, false)?;
     Ok(())
 }

@@ -1,0 +1,9 @@
+pub mod Answering
+pub mod Asking
+pub mod Delivering
+pub mod Items
+pub mod LastBindings
+pub mod Lines
+pub mod Numbers
+pub mod Sendable
+pub mod Traffic

@@ -1,0 +1,4 @@
+pub mod Messages
+pub mod Running
+pub mod Scripts
+pub mod Talk

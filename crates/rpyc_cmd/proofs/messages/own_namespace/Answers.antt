@@ -1,4 +1,0 @@
-use Rattle.rpyc_cmd.proofs.messages.own_namespace.Goals as goal
-
-pub returns : goal.returns
-returns c = rw (← c.in_ok-identity.ensures) c.boxed.ensures
