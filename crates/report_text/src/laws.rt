@@ -1,4 +1,5 @@
-ghost use Rattle.std.specs.Prelude.{◌≡◌, ◌⊎◌, ◌+◌, ℕ, List, All, None, Ok, Err};
+ghost use Rattle.std.specs.Prelude.{◌≡◌, ◌⊎◌, ◌+◌, ◌-◌, ◌^◌, ◌++◌, ℕ, List, All, None, Ok, Err, String, string_bytes};
+ghost use Rattle.std.specs.Global.{Global};
 ghost use Rattle.rp_base.specs.declared.plain.Plain.{Plain};
 ghost use Rattle.channel_frames.specs.Frames.{IsBytes};
 ghost use Rattle.brine_codec.specs.Reading.{decoded};
@@ -7,6 +8,9 @@ ghost use Rattle.message_core.specs.Messages.{Finds};
 ghost use Rattle.message_core.specs.declared.message.Message.{Message};
 ghost use Rattle.message_core.specs.declared.faults.MsgFault.{MsgFault};
 ghost use Rattle.message_core.specs.declared.faults.PeerFault.{PeerFault};
+ghost use Rattle.py_plain.specs.Printing.{PrintsWithin};
+ghost use Rattle.py_plain.specs.declared.ends.PlainEnd.{PlainEnd};
+ghost use Rattle.py_plain.specs.declared.ends.PlainEnd.TheVariants as plain_end;
 ghost use Rattle.report_text.specs.Dumping.{brine_kind, dump_fault, dump_text, fault_at, judge, lines_of, message_kind};
 ghost use Rattle.report_text.specs.Contents.{IsFramed, IsMadeOf, all_framed};
 
@@ -30,4 +34,11 @@ pub fn frames_are_judged()
     ensures fault { (at : ℕ) (body : List ℕ) (f : PeerFault) → judge (at, body) ≡ Err f
         → ((b : BrineFault) × (decoded body ≡ Err b) × (f ≡ fault_at (brine_kind b.what) (at + 5 + b.at)))
         ⊎ ((v : Plain) × (e : MsgFault) × (decoded body ≡ Ok v) × Finds v (Err e) × (f ≡ fault_at (message_kind e) (at + 5))) }
+{}
+
+/// Printing with the limit `u64::MAX` has none: where any string could hold what is there and what is to be printed, an error
+/// is want of memory.
+pub fn reports_have_no_limit()
+    ensures { (text old new : List ℕ) (whole : String Global) (end : PlainEnd) → string_bytes whole ≡ old ++ text
+        → PrintsWithin (2 ^ 64 - 1) text old new (Err end) → end ≡ plain_end.NoMemory }
 {}

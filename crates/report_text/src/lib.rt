@@ -10,6 +10,8 @@ mod streams;
 mod tests;
 
 pub use dumped::Dump;
-pub use laws::{frames_are_judged, messages_are_printed, streams_are_messages};
+pub use laws::{
+    frames_are_judged, messages_are_printed, reports_have_no_limit, streams_are_messages,
+};
 pub use lines::message_line;
 pub use streams::dump;

@@ -47,7 +47,7 @@ fn push_message(m: &Message, out: &mut String) -> Result<(), NoMemory>
     }
 }
 
-/// Appends the repr of a value. No text is longer than `u64::MAX` bytes, so what is left is want of memory.
+/// Appends the repr of a value. No string has more than `u64::MAX` bytes, so that an error is want of memory.
 fn push_repr(value: &Plain, out: &mut String) -> Result<(), NoMemory>
     ensures { OnOk result (string_bytes out.new ≡ string_bytes out.old ++ repr_of value.now) }
 {

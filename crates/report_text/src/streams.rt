@@ -10,9 +10,9 @@ use message_core::{PeerFault, PeerKind};
 use rp_base::{NoMemory, Text};
 use std::alloc::Global;
 
-/// A stream of frames as text: for each frame the line of its message, to the first fault, and then `fault CODE PLACE`.
-/// Looked for are the faults of frames, of brine, and of messages that have not the shape, the kind or the handler of
-/// one. What the boxes hold is not judged. Time is linear in the bytes and what is printed.
+/// A stream of frames as text: the line of each message up to the first fault, then `fault CODE PLACE`, each with a line
+/// feed. Faults are those of frames (F1 to F5), of brine (B1 to B9) and of messages (M1 to M4); boxes and arguments are not
+/// judged. A place is counted in bytes from 0. Time is linear in the bytes and in what is printed.
 pub fn dump(alloc: Global, bytes: &[u8]) -> Result<Dump, NoMemory>
     ensures { IfOk result (λ d. (d.text ≡ dump_text bytes.now) × (d.fault ≡ dump_fault bytes.now)) }
 {
@@ -74,7 +74,7 @@ fn next_body(
     }
 }
 
-/// The fault of the frame that begins at this byte of the stream, at its byte.
+/// What is wrong with the frame that begins at this byte of the stream, at the byte that shows it.
 fn frame_end(fault: FrameFault, start: usize, waiting: &[u8]) -> FrameEnd
     requires { start < 2 ^ 63 }
     ensures { result ≡ shown start fault waiting.now }
