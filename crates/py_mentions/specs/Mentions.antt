@@ -90,15 +90,19 @@ abbrev pub maybe_mention : Option ℕ → Option ℕ → Form → Option Name �
 maybe_mention f c how None = []
 maybe_mention f c how (Some n) = class_mention f c how n.line n.text ∷ []
 
+-- a handler mentions its kinds, then its name; a class its name, then its base
+abbrev pub compound_mentions : Option ℕ → Statement → List Mention
+compound_mentions f (statement.Except kinds name s) = map (mention_of f form.Exception) kinds ++ maybe_mention f None form.Caught name
+compound_mentions f (statement.Class name base s) = class_mention f (Some s) form.Class name.line name.text ∷ maybe_mention f (Some s) form.Base base
+compound_mentions f _ = []
+
 abbrev pub statement_mentions : Program → List Construct → Role → ℕ → Statement → List Mention
 statement_mentions p cs r l (statement.RaiseName n) = guarded_use p cs form.Raised n.line n.text ∷ []
 statement_mentions p cs r l (statement.RaiseCall n es) = mention_of (function_at cs) form.Raised n ∷ []
 statement_mentions p cs r l (statement.Global ns) = map (mention_of (function_at cs) form.Global) ns
 statement_mentions p cs r l (statement.Nonlocal ns) = map (mention_of (function_at cs) form.Nonlocal) ns
-statement_mentions p cs r l (statement.Except kinds name s) = map (mention_of (function_at cs) form.Exception) kinds ++ maybe_mention (function_at cs) None form.Caught name
 statement_mentions p cs r l (statement.Def f) = def_mentions cs r l f (slice_get p.functions f)
-statement_mentions p cs r l (statement.Class name base s) = class_mention (function_at cs) (Some s) form.Class name.line name.text ∷ maybe_mention (function_at cs) (Some s) form.Base base
-statement_mentions p cs r l _ = []
+statement_mentions p cs r l s = compound_mentions (function_at cs) s
 
 abbrev pub node_mentions : Program → List Construct → Role → ℕ → Option Node → List Mention
 node_mentions p cs r l (Some (node.Expression e)) = expression_mentions p cs r l e

@@ -100,15 +100,18 @@ statement_role role.Whole = role.AtTop
 statement_role role.ClassBody = role.InClass
 statement_role _ = role.Plain
 
+abbrev pub flow_parts : Statement → List Part
+flow_parts (statement.If e s other) = part role.Plain e ∷ part role.Plain s ∷ maybe (part role.Plain) other
+flow_parts (statement.While e s) = part role.Plain e ∷ part_in construct.Loop role.Plain s ∷ []
+flow_parts (statement.For t e s) = part role.Plain t ∷ part role.Plain e ∷ part_in construct.Loop role.Plain s ∷ []
+flow_parts _ = []
+
 abbrev pub compound_parts : Program → ℕ → Statement → List Part
-compound_parts p n (statement.If e s other) = part role.Plain e ∷ part role.Plain s ∷ maybe (part role.Plain) other
-compound_parts p n (statement.While e s) = part role.Plain e ∷ part_in construct.Loop role.Plain s ∷ []
-compound_parts p n (statement.For t e s) = part role.Plain t ∷ part role.Plain e ∷ part_in construct.Loop role.Plain s ∷ []
 compound_parts p n (statement.Try s hs final) = part role.Plain s ∷ handler_parts hs ++ maybe (part_in construct.Finally role.Plain) final
 compound_parts p n (statement.Except kinds name s) = part_in (construct.Handler n) role.Plain s ∷ []
 compound_parts p n (statement.Def f) = body_of f (slice_get p.functions f)
 compound_parts p n (statement.Class name base s) = part_in (construct.Class s) role.ClassBody s ∷ []
-compound_parts p n _ = []
+compound_parts p n s = flow_parts s
 
 abbrev pub statement_parts : Program → Role → ℕ → Statement → List Part
 statement_parts p r n (statement.Alone e) = plain_parts (e ∷ [])

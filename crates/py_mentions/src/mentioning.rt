@@ -1,5 +1,5 @@
 ghost use Rattle.std.specs.Prelude.{◌≡◌, ◌++◌, ◌∷◌, [], IfOk, length, map, slice_get};
-ghost use Rattle.py_mentions.specs.Mentions.{bound, class_mention, def_mentions, defined, expression_mentions, guarded_use, lambda_mentions, line_of, maybe_mention, mention, mention_of, mentions_at, parameter_mentions, read, statement_mentions, target_mentions};
+ghost use Rattle.py_mentions.specs.Mentions.{bound, class_mention, compound_mentions, def_mentions, defined, expression_mentions, guarded_use, lambda_mentions, line_of, maybe_mention, mention, mention_of, mentions_at, parameter_mentions, read, statement_mentions, target_mentions};
 
 use crate::mention::{Form, Mention};
 use crate::place::{Construct, Role};
@@ -368,49 +368,60 @@ fn statement_mentions(
 ) -> Result<(), NoMemory>
     ensures { IfOk result (λ _. mentions.new ≡ mentions.old ++ statement_mentions program.now constructs.now role line statement.now) }
 {
+    let function = function_at(constructs);
     match statement {
-        Statement::RaiseName(name) => put_guarded(
-            alloc,
-            mentions,
-            program,
-            constructs,
-            Form::Raised,
-            name.line,
-            name.text.as_str(),
-        ),
-        Statement::RaiseCall { name, .. } => put(
-            alloc,
-            mentions,
-            function_at(constructs),
-            Form::Raised,
-            name.line,
-            name.text.as_str(),
-        ),
+        Statement::RaiseName(name) => {
+            let text = name.text.as_str();
+            put_guarded(
+                alloc,
+                mentions,
+                program,
+                constructs,
+                Form::Raised,
+                name.line,
+                text,
+            )
+        }
+        Statement::RaiseCall { name, .. } => {
+            let text = name.text.as_str();
+            put(alloc, mentions, function, Form::Raised, name.line, text)
+        }
         Statement::Global(names) => put_all(
             alloc,
             mentions,
-            function_at(constructs),
+            function,
             Form::Global,
             names.as_slice(),
         ),
         Statement::Nonlocal(names) => put_all(
             alloc,
             mentions,
-            function_at(constructs),
+            function,
             Form::Nonlocal,
             names.as_slice(),
         ),
+        Statement::Def(def) => def_mentions(alloc, mentions, program, constructs, role, line, *def),
+        _ => compound_mentions(alloc, mentions, function, statement),
+    }
+}
+
+/// What a handler or a class mentions, in this function.
+fn compound_mentions(
+    alloc: Global,
+    mentions: &mut Items<Mention>,
+    function: Option<u32>,
+    statement: &Statement,
+) -> Result<(), NoMemory>
+    ensures { IfOk result (λ _. mentions.new ≡ mentions.old ++ compound_mentions function statement.now) }
+{
+    match statement {
         Statement::Except { kinds, name, .. } => {
-            let function = function_at(constructs);
             put_all(alloc, mentions, function, Form::Exception, kinds.as_slice())?;
             put_maybe(alloc, mentions, function, None, Form::Caught, name)
         }
-        Statement::Def(function) => def_mentions(
-            alloc, mentions, program, constructs, role, line, *function,
-        ),
         Statement::Class { name, base, body } => {
-            let function = function_at(constructs);
             let class = Some(*body);
+            let text = name.text.as_str();
             put_of_class(
                 alloc,
                 mentions,
@@ -418,7 +429,7 @@ fn statement_mentions(
                 class,
                 Form::Class,
                 name.line,
-                name.text.as_str(),
+                text,
             )?;
             put_maybe(alloc, mentions, function, class, Form::Base, base)
         }

@@ -1,5 +1,5 @@
 ghost use Rattle.std.specs.Prelude.{◌≡◌, ◌++◌, ◌∷◌, [], IfOk, length, map, slice_get};
-ghost use Rattle.py_mentions.specs.Parts.{argument_role, body_of, compound_parts, expression_parts, handler_parts, maybe, part, part_in, parts, plain_parts, receiver_role, right_of, shows, statement_parts, statement_role, target_parts, target_role};
+ghost use Rattle.py_mentions.specs.Parts.{argument_role, body_of, compound_parts, expression_parts, flow_parts, handler_parts, maybe, part, part_in, parts, plain_parts, receiver_role, right_of, shows, statement_parts, statement_role, target_parts, target_role};
 
 use crate::place::{Construct, Part, Role};
 use py_ast::{Builtin, Expression, Link, Node, Program, Statement, Target};
@@ -260,26 +260,6 @@ fn compound_parts(
     ensures { IfOk result (λ _. found.new.items ≡ found.old.items ++ compound_parts program.now number statement.now) }
 {
     match statement {
-        Statement::If {
-            test,
-            then,
-            otherwise,
-        } => {
-            put_all(found, Role::Plain, &[*test, *then])?;
-            put_maybe(found, *otherwise)
-        }
-        Statement::While { test, body } => {
-            put(found, Role::Plain, *test)?;
-            put_in(found, Construct::Loop, Role::Plain, *body)
-        }
-        Statement::For {
-            target,
-            source,
-            body,
-        } => {
-            put_all(found, Role::Plain, &[*target, *source])?;
-            put_in(found, Construct::Loop, Role::Plain, *body)
-        }
         Statement::Try {
             body,
             handlers,
@@ -302,6 +282,35 @@ fn compound_parts(
             Role::ClassBody,
             *body,
         ),
+        _ => flow_parts(found, statement),
+    }
+}
+
+/// The parts of an `if`, a `while` or a `for`.
+fn flow_parts(found: &mut Vec<Part>, statement: &Statement) -> Result<(), NoMemory>
+    ensures { IfOk result (λ _. found.new.items ≡ found.old.items ++ flow_parts statement.now) }
+{
+    match statement {
+        Statement::If {
+            test,
+            then,
+            otherwise,
+        } => {
+            put_all(found, Role::Plain, &[*test, *then])?;
+            put_maybe(found, *otherwise)
+        }
+        Statement::While { test, body } => {
+            put(found, Role::Plain, *test)?;
+            put_in(found, Construct::Loop, Role::Plain, *body)
+        }
+        Statement::For {
+            target,
+            source,
+            body,
+        } => {
+            put_all(found, Role::Plain, &[*target, *source])?;
+            put_in(found, Construct::Loop, Role::Plain, *body)
+        }
         _ => Ok(()),
     }
 }
