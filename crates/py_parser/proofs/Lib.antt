@@ -1,2 +1,3 @@
+pub mod SizeLaws
 pub mod StackLaws
 pub mod Terminals
