@@ -15,13 +15,13 @@ use Rattle.py_parser.specs.declared.reading.Opened.{Opened}
 use Rattle.py_parser.specs.declared.reading.Opened.TheVariants as opened
 use Rattle.py_parser.specs.declared.reading.Taken.{Taken}
 use Rattle.py_parser.specs.declared.reading.Taken.TheVariants as taken
-use Rattle.py_parser.specs.Machine.{machine}
+use Rattle.py_parser.specs.BuildingActs.{builder}
 
 abbrev pub lexeme : Terminal → List ℕ → ℕ → Lexeme
 lexeme k text line = record { kind = k; text = text; line = line }
 
 abbrev pub steps : Limits → ℕ → List Symbol → Building → Lexeme → Step Building
-steps lim f ss b u = step Building machine lim f ss b u
+steps lim f ss b u = step Building builder lim f ss b u
 
 -- the token was taken as the step says, and then this stack and this building are left
 abbrev pub Stepped : Taken → List Symbol → Building → Step Building → Type 0
@@ -32,7 +32,7 @@ Stepped _ ss b _ = ⊥
 
 -- the way that was picked was opened, or does not fit
 abbrev pub OpenedBy : Limits → ℕ → Building → List Symbol → List Symbol → Word → Opened → Option Way → Type 0
-OpenedBy lim d b old new n opened.Open (Some w) = (fits Building machine lim w d b ≡ true) × (new ≡ deeper d w.symbols ++ old)
-OpenedBy lim d b old new n opened.Past (Some w) = fits Building machine lim w d b ≡ false
+OpenedBy lim d b old new n opened.Open (Some w) = (fits Building builder lim w d b ≡ true) × (new ≡ deeper d w.symbols ++ old)
+OpenedBy lim d b old new n opened.Past (Some w) = fits Building builder lim w d b ≡ false
 OpenedBy lim d b old new n (opened.Other a) None = (a ≡ empty n) × (new ≡ old)
 OpenedBy lim d b old new n _ _ = ⊥

@@ -5,7 +5,7 @@ ghost use Rattle.py_grammar.specs.Table.{ways};
 ghost use Rattle.py_grammar.specs.Terminals.{same};
 ghost use Rattle.py_grammar.specs.Writing.{deeper};
 ghost use Rattle.py_parser.specs.declared.builder.Building.{Building};
-ghost use Rattle.py_parser.specs.Machine.{machine};
+ghost use Rattle.py_parser.specs.BuildingActs.{builder};
 ghost use Rattle.py_parser.specs.Rows.{symbols_of, way_of};
 ghost use Rattle.py_parser.specs.Stepping.{lexeme, steps, Stepped, OpenedBy};
 
@@ -14,6 +14,7 @@ use crate::parts::Stack;
 use crate::table::{Part, Row, entry_of};
 use py_grammar::{Act, Guard, Limits, Symbol, Terminal, Word};
 use rp_base::NoMemory;
+use std::alloc::Global;
 
 /// What became of a token.
 #[derive(Clone, Copy, Debug, PartialEq, Eq)]
@@ -103,7 +104,7 @@ fn in_reach(limits: &Limits, parts: &[Part], level: u32) -> bool
 }
 
 fn passes(building: &Building, limits: &Limits, guard: Option<Guard>) -> bool
-    ensures { result ≡ passes Building machine limits.now guard building.now }
+    ensures { result ≡ passes Building builder limits.now guard building.now }
 {
     match guard {
         Some(guard) => building.holds(limits, guard),
@@ -113,7 +114,7 @@ fn passes(building: &Building, limits: &Limits, guard: Option<Guard>) -> bool
 
 /// Whether the way may be taken at this level.
 fn fits(building: &Building, limits: &Limits, row: &Row, level: u32) -> bool
-    ensures { result ≡ fits Building machine limits.now (way_of row.now) level building.now }
+    ensures { result ≡ fits Building builder limits.now (way_of row.now) level building.now }
 {
     level <= limits.levels
         && passes(building, limits, row.guard)
@@ -168,6 +169,7 @@ fn open_word(
 
 /// Takes one token, if it fits.
 pub(crate) fn take<'a>(
+    alloc: Global,
     building: &mut Building<'a>,
     limits: &Limits,
     stack: &mut Stack<Symbol>,
@@ -190,14 +192,14 @@ pub(crate) fn take<'a>(
                 building.take_in(text, line);
                 return Ok(Taken::Took);
             }
-            Some(Symbol::Act(act)) => building.act(act)?,
+            Some(Symbol::Act(act)) => building.act(alloc, act)?,
             Some(Symbol::Word(word, level)) => {
                 if bound == 0 {
                     return Ok(Taken::Refused);
                 }
                 match open_word(building, limits, stack, terminal, word, level)? {
                     Opened::Open => bound -= 1,
-                    Opened::Other(Some(act)) => building.act(act)?,
+                    Opened::Other(Some(act)) => building.act(alloc, act)?,
                     Opened::Past | Opened::Other(None) => return Ok(Taken::Refused),
                 }
             }
