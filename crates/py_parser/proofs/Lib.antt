@@ -1,3 +1,4 @@
+pub mod ReadLaws
+pub mod SameLaws
 pub mod SizeLaws
 pub mod StackLaws
-pub mod Terminals

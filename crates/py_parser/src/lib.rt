@@ -5,3 +5,4 @@ mod builder;
 mod parts;
 mod reading;
 mod table;
+mod terminals;

@@ -1,18 +1,22 @@
 ghost use Rattle.std.specs.Prelude.{◌≡◌, ◌≤◌, ◌<◌, ◌++◌, [], ◌∷◌, false, map, IfOk, OnOk, option_map, length};
 ghost use Rattle.py_grammar.specs.Building.{passes};
 ghost use Rattle.py_grammar.specs.Reading.{has, begins, pick, in_reach, fits, depth_of_words};
-ghost use Rattle.py_grammar.specs.Table.{ways};
+ghost use Rattle.py_grammar.specs.Table.{ways, opening};
 ghost use Rattle.py_grammar.specs.Terminals.{same};
 ghost use Rattle.py_grammar.specs.Writing.{deeper};
 ghost use Rattle.py_parser.specs.declared.builder.Building.{Building};
-ghost use Rattle.py_parser.specs.BuildingActs.{builder};
+ghost use Rattle.py_parser.specs.Machine.{machine};
 ghost use Rattle.py_parser.specs.Rows.{symbols_of, way_of};
-ghost use Rattle.py_parser.specs.Stepping.{lexeme, steps, Stepped, OpenedBy};
+ghost use Rattle.py_parser.specs.Stepping.{lexeme, steps, Stepped, OpenedBy, outcome_of, read_on};
+ghost use Rattle.py_parser.specs.Lexemes.{lexemes};
+ghost use Rattle.py_parser.specs.Building.{begun};
 
 use crate::builder::Building;
 use crate::parts::Stack;
 use crate::table::{Part, Row, entry_of};
-use py_grammar::{Act, Guard, Limits, Symbol, Terminal, Word};
+use crate::terminals::{last_line, slice, terminal_of};
+use py_grammar::{Act, Guard, Limits, Start, Symbol, Terminal, Word};
+use py_lexer::Token;
 use rp_base::NoMemory;
 use std::alloc::Global;
 
@@ -36,7 +40,7 @@ pub(crate) enum Opened {
     Other(Option<Act>),
 }
 
-#[tactic(auto, using(crate::proofs::Terminals::same_code))]
+#[tactic(auto, using(crate::proofs::SameLaws::same_code))]
 fn is_same(one: Terminal, other: Terminal) -> bool
     ensures { result ≡ same one other }
 {
@@ -104,7 +108,7 @@ fn in_reach(limits: &Limits, parts: &[Part], level: u32) -> bool
 }
 
 fn passes(building: &Building, limits: &Limits, guard: Option<Guard>) -> bool
-    ensures { result ≡ passes Building builder limits.now guard building.now }
+    ensures { result ≡ passes Building machine limits.now guard building.now }
 {
     match guard {
         Some(guard) => building.holds(limits, guard),
@@ -114,7 +118,7 @@ fn passes(building: &Building, limits: &Limits, guard: Option<Guard>) -> bool
 
 /// Whether the way may be taken at this level.
 fn fits(building: &Building, limits: &Limits, row: &Row, level: u32) -> bool
-    ensures { result ≡ fits Building builder limits.now (way_of row.now) level building.now }
+    ensures { result ≡ fits Building machine limits.now (way_of row.now) level building.now }
 {
     level <= limits.levels
         && passes(building, limits, row.guard)
@@ -204,5 +208,80 @@ pub(crate) fn take<'a>(
                 }
             }
         }
+    }
+}
+
+/// How far a text was read.
+#[derive(Drop)]
+pub(crate) enum Reached<'a> {
+    /// To its end.
+    Done(Building<'a>),
+    /// So many tokens fit, and the next does not.
+    Stuck(usize),
+}
+
+/// What is to come at the start of a text.
+fn open_text(alloc: Global, start: Start) -> Result<Stack<Symbol>, NoMemory>
+    ensures { IfOk result (λ stack. stack ≡ opening start) }
+{
+    let mut stack = Stack::new(alloc);
+    match start {
+        Start::Script => {
+            stack.push(Symbol::Act(Act::MakeSuite))?;
+            stack.push(Symbol::Word(Word::Statements, 0))?;
+            stack.push(Symbol::Act(Act::Begin))?;
+        }
+        Start::Expression => {
+            stack.push(Symbol::Word(Word::LineEnd, 0))?;
+            stack.push(Symbol::Word(Word::Expr, 0))?;
+        }
+    }
+    Ok(stack)
+}
+
+/// Reads the tokens and the end of the text. Time is linear in the tokens.
+pub(crate) fn read<'a>(
+    alloc: Global,
+    limits: &Limits,
+    start: Start,
+    tokens: &[Token],
+    text: &'a str,
+) -> Result<Reached<'a>, NoMemory>
+    requires levels { limits.now.levels < 4294967295 }
+    requires size { length text.now ≤ 1048576 }
+    ensures { IfOk result (λ reached. outcome_of reached ≡ read_on limits.now (opening start) begun (lexemes text.now tokens.now)) }
+{
+    let mut building = Building::new(alloc);
+    let mut stack = open_text(alloc, start)?;
+    for (place, token) in tokens.iter().enumerate() {
+        let word = slice(text, token);
+        let terminal = terminal_of(token.kind, word);
+        match take(
+            alloc,
+            &mut building,
+            limits,
+            &mut stack,
+            terminal,
+            word,
+            token.line,
+        )? {
+            Taken::Took => {}
+            Taken::Refused => return Ok(Reached::Stuck(place)),
+            Taken::Closed => return Ok(Reached::Stuck(place + 1)),
+        }
+    }
+    let line = last_line(text.as_bytes());
+    match take(
+        alloc,
+        &mut building,
+        limits,
+        &mut stack,
+        Terminal::End,
+        "",
+        line,
+    )? {
+        Taken::Closed => Ok(Reached::Done(building)),
+        Taken::Refused => Ok(Reached::Stuck(tokens.len())),
+        Taken::Took => Ok(Reached::Stuck(tokens.len().saturating_add(1))),
     }
 }
