@@ -1,5 +1,5 @@
 -- The tokens of a text as the grammar sees them.
-use Rattle.std.specs.Prelude.{ℕ, zero, suc, ◌+◌, Bool, true, false, not, ◌&&◌, ◌||◌, ◌==◌, nat_lt, nat_le, List, [], ◌∷◌, ◌++◌, map, length, take, drop, codes, slice_index, if◌then◌else◌}
+use Rattle.std.specs.Prelude.{ℕ, suc, ◌+◌, ◌-◌, Bool, true, false, not, ◌&&◌, ◌||◌, ◌==◌, nat_lt, nat_le, List, [], ◌∷◌, ◌++◌, map, length, take, drop, codes, slice_index, if◌then◌else◌}
 use Rattle.std.specs.Str.{bytes_eq}
 use Rattle.py_grammar.specs.declared.terminal.Terminal.{Terminal}
 use Rattle.py_grammar.specs.declared.terminal.Terminal.TheVariants as t
@@ -51,11 +51,16 @@ slice text start stop = if is_boundary text stop && is_boundary (take stop text)
 abbrev pub lexeme_in : List ℕ → Token → Lexeme
 lexeme_in text token = record { kind = terminal_of token.kind (slice text token.start token.stop); text = slice text token.start token.stop; line = token.line }
 
+abbrev pub line_ends : List ℕ → ℕ
+line_ends [] = 0
+line_ends (c ∷ cs) = if c == 10 then suc (line_ends cs) else line_ends cs
+
+abbrev pub ends_line : List ℕ → Bool
+ends_line text = slice_index text (length text - 1) == 10
+
 -- the line of the last byte, or 1: a line end ends its own line
-unfoldable pub last_line : List ℕ → ℕ
-last_line [] = 1
-last_line (c ∷ []) = 1
-last_line (c ∷ d ∷ cs) = if c == 10 then suc (last_line (d ∷ cs)) else last_line (d ∷ cs)
+abbrev pub last_line : List ℕ → ℕ
+last_line text = if ends_line text then line_ends text else line_ends text + 1
 
 -- the end of the text stands on the last line that has a byte
 abbrev pub end_of : List ℕ → Lexeme

@@ -1,5 +1,5 @@
-ghost use Rattle.std.specs.Prelude.{◌≡◌, ◌≤◌, map, length};
-ghost use Rattle.py_parser.specs.Lexemes.{spelled, keyword_of, sign_of, terminal_of, slice, last_line};
+ghost use Rattle.std.specs.Prelude.{◌≡◌, ◌≤◌, length};
+ghost use Rattle.py_parser.specs.Lexemes.{spelled, keyword_of, sign_of, terminal_of, slice, line_ends, ends_line, last_line};
 ghost use Rattle.py_parser.specs.Spellings.{spellings_of};
 
 use py_grammar::Terminal;
@@ -352,18 +352,33 @@ pub(crate) fn slice<'a>(text: &'a str, token: &Token) -> &'a str
     slice
 }
 
+fn line_ends(text: &[u8]) -> u32
+    requires { length text.now ≤ 1048576 }
+    ensures count { result ≡ line_ends text.now }
+    ensures bound { result ≤ length text.now }
+{
+    let mut line_ends: u32 = 0;
+    for byte in text {
+        if *byte == b'\n' {
+            line_ends += 1;
+        }
+    }
+    line_ends
+}
+
+fn ends_line(text: &[u8]) -> bool
+    ensures { result ≡ ends_line text.now }
+{
+    !text.is_empty() && text[text.len() - 1] == b'\n'
+}
+
 /// The line of the last byte, or 1.
 pub(crate) fn last_line(text: &[u8]) -> u32
     requires { length text.now ≤ 1048576 }
     ensures { result ≡ last_line text.now }
 {
-    let mut line: u32 = 1;
-    let mut at: usize = 1;
-    'bytes: while at < text.len() {
-        if text[at - 1] == b'\n' {
-            line += 1;
-        }
-        at += 1;
+    if ends_line(text) {
+        return line_ends(text);
     }
-    line
+    line_ends(text) + 1
 }
