@@ -1,3 +1,4 @@
+pub mod PlaceLaws
 pub mod ReadLaws
 pub mod SameLaws
 pub mod SizeLaws

@@ -17,13 +17,13 @@ use Rattle.py_parser.specs.declared.reading.Taken.{Taken}
 use Rattle.py_parser.specs.declared.reading.Reached.{Reached}
 use Rattle.py_parser.specs.declared.reading.Reached.TheVariants as reached
 use Rattle.py_parser.specs.declared.reading.Taken.TheVariants as taken
-use Rattle.py_parser.specs.Machine.{machine}
+use Rattle.py_parser.specs.BuildingActs.{builder}
 
 abbrev pub lexeme : Terminal → List ℕ → ℕ → Lexeme
 lexeme k text line = record { kind = k; text = text; line = line }
 
 abbrev pub steps : Limits → ℕ → List Symbol → Building → Lexeme → Step Building
-steps lim f ss b u = step Building machine lim f ss b u
+steps lim f ss b u = step Building builder lim f ss b u
 
 -- the token was taken as the step says, and then this stack and this building are left
 abbrev pub Stepped : Taken → List Symbol → Building → Step Building → Type 0
@@ -34,8 +34,8 @@ Stepped _ ss b _ = ⊥
 
 -- the way that was picked was opened, or does not fit
 abbrev pub OpenedBy : Limits → ℕ → Building → List Symbol → List Symbol → Word → Opened → Option Way → Type 0
-OpenedBy lim d b old new n opened.Open (Some w) = (fits Building machine lim w d b ≡ true) × (new ≡ deeper d w.symbols ++ old)
-OpenedBy lim d b old new n opened.Past (Some w) = fits Building machine lim w d b ≡ false
+OpenedBy lim d b old new n opened.Open (Some w) = (fits Building builder lim w d b ≡ true) × (new ≡ deeper d w.symbols ++ old)
+OpenedBy lim d b old new n opened.Past (Some w) = fits Building builder lim w d b ≡ false
 OpenedBy lim d b old new n (opened.Other a) None = (a ≡ empty n) × (new ≡ old)
 OpenedBy lim d b old new n _ _ = ⊥
 
@@ -50,4 +50,4 @@ beyond i (Done b) = Done b
 beyond i (Stuck n) = Stuck (i + n)
 
 abbrev pub read_on : Limits → List Symbol → Building → List Lexeme → Outcome Building
-read_on lim ss b ts = run Building machine lim ss b ts
+read_on lim ss b ts = run Building builder lim ss b ts

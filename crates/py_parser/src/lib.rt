@@ -2,7 +2,10 @@
 #![tactic(auto)]
 
 mod builder;
+mod parsing;
 mod parts;
 mod reading;
 mod table;
 mod terminals;
+
+pub use parsing::{ParseEnd, parse, parse_expr};

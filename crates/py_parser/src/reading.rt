@@ -5,7 +5,7 @@ ghost use Rattle.py_grammar.specs.Table.{ways, opening};
 ghost use Rattle.py_grammar.specs.Terminals.{same};
 ghost use Rattle.py_grammar.specs.Writing.{deeper};
 ghost use Rattle.py_parser.specs.declared.builder.Building.{Building};
-ghost use Rattle.py_parser.specs.Machine.{machine};
+ghost use Rattle.py_parser.specs.BuildingActs.{builder};
 ghost use Rattle.py_parser.specs.Rows.{symbols_of, way_of};
 ghost use Rattle.py_parser.specs.Stepping.{lexeme, steps, Stepped, OpenedBy, outcome_of, read_on};
 ghost use Rattle.py_parser.specs.Lexemes.{lexemes};
@@ -47,7 +47,7 @@ fn is_same(one: Terminal, other: Terminal) -> bool
     one == other
 }
 
-fn has(set: &[Terminal], terminal: Terminal) -> bool
+pub(crate) fn has(set: &[Terminal], terminal: Terminal) -> bool
     ensures { result ≡ has terminal set.now }
 {
     for other in set {
@@ -108,7 +108,7 @@ fn in_reach(limits: &Limits, parts: &[Part], level: u32) -> bool
 }
 
 fn passes(building: &Building, limits: &Limits, guard: Option<Guard>) -> bool
-    ensures { result ≡ passes Building machine limits.now guard building.now }
+    ensures { result ≡ passes Building builder limits.now guard building.now }
 {
     match guard {
         Some(guard) => building.holds(limits, guard),
@@ -118,7 +118,7 @@ fn passes(building: &Building, limits: &Limits, guard: Option<Guard>) -> bool
 
 /// Whether the way may be taken at this level.
 fn fits(building: &Building, limits: &Limits, row: &Row, level: u32) -> bool
-    ensures { result ≡ fits Building machine limits.now (way_of row.now) level building.now }
+    ensures { result ≡ fits Building builder limits.now (way_of row.now) level building.now }
 {
     level <= limits.levels
         && passes(building, limits, row.guard)
@@ -240,6 +240,7 @@ fn open_text(alloc: Global, start: Start) -> Result<Stack<Symbol>, NoMemory>
 }
 
 /// Reads the tokens and the end of the text. Time is linear in the tokens.
+#[tactic(auto, using(crate::proofs::ReadLaws::never_last))]
 pub(crate) fn read<'a>(
     alloc: Global,
     limits: &Limits,
