@@ -1,5 +1,5 @@
 -- Each act keeps the numbers of parts below those of their nodes.
-use Rattle.std.proofs.Common.{◌≡◌, ◌<◌, ◌+◌, ℕ, ℤ, List, [], ◌∷◌, ◌++◌, length, slice_get, slice_set, Option, None, Some, refl, subst, sym, ◌∙◌, arith, Bool, true, false}
+use Rattle.std.proofs.Common.{◌≡◌, ◌<◌, ℕ, ℤ, List, [], ◌∷◌, ◌++◌, length, slice_get, Option, None, Some, refl, subst, sym, ◌∙◌, arith, Bool, true, false}
 use Rattle.std.specs.Prelude.{codes, if◌then◌else◌}
 use Rattle.std.specs.Option.{option_to_list}
 use Rattle.std.specs.Str.{bytes_eq}
@@ -33,7 +33,7 @@ use Rattle.py_parser.specs.declared.parts.Form.TheVariants as form
 use Rattle.py_parser.specs.declared.parts.Gathering.{Gathering}
 use Rattle.py_parser.specs.declared.parts.Sign.{Sign}
 use Rattle.py_parser.specs.declared.parts.Tree.{Tree}
-use Rattle.py_parser.specs.Building.{stuck, place_tree, statement_tree, value_tree}
+use Rattle.py_parser.specs.Building.{place_tree, statement_tree, value_tree}
 use Rattle.py_parser.specs.BuildingActs.{acted}
 use Rattle.py_parser.specs.BuildingExpressions.{attribute, binary, call, compare, conditional, constant, inverse, item, listed, name_tree, named, of_bytes, of_int, of_text, tuple, unary}
 use Rattle.py_parser.specs.BuildingFunctions.{begin_def, begin_lambda, end_def, end_lambda, without_function}

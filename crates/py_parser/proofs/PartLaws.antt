@@ -1,20 +1,12 @@
 -- What acts keep: the parts of each node have smaller numbers than the node, and whatever waits has numbers of nodes.
-use Rattle.std.proofs.Common.{◌≡◌, ◌<◌, ◌≤◌, ◌+◌, ◌-◌, ℕ, suc, zero, List, [], ◌∷◌, ◌++◌, length, slice_get, slice_set, Option, None, Some, refl, subst, sym, ap, ◌∙◌, arith, Bool, true, false}
-use Rattle.std.specs.Prelude.{map, codes}
+use Rattle.std.proofs.Common.{◌≡◌, ◌<◌, ◌≤◌, ◌+◌, ℕ, suc, zero, List, [], ◌∷◌, ◌++◌, length, slice_get, slice_set, Option, Some, refl, subst, sym, ap, ◌∙◌, arith}
+use Rattle.std.specs.Prelude.{map}
 use Rattle.std.specs.Option.{option_to_list}
-use Rattle.py_ast.specs.declared.expression.Expression.{Expression}
-use Rattle.py_ast.specs.declared.expression.Expression.TheVariants as expression
 use Rattle.py_ast.specs.declared.expression.Link.{Link}
-use Rattle.py_ast.specs.declared.name.Name.{Name}
 use Rattle.py_ast.specs.declared.node.Node.{Node}
 use Rattle.py_ast.specs.declared.node.Node.TheVariants as node
-use Rattle.py_ast.specs.declared.program.FunctionInfo.{FunctionInfo}
 use Rattle.py_ast.specs.declared.statement.Statement.{Statement}
-use Rattle.py_ast.specs.declared.statement.Statement.TheVariants as statement
-use Rattle.py_ast.specs.declared.target.Target.{Target}
-use Rattle.py_ast.specs.declared.target.Target.TheVariants as target
-use Rattle.py_ast.specs.Parts.{Each, PartsComeFirst, parts_of}
-use Rattle.rp_base.specs.declared.plain.Plain.TheVariants as plain
+use Rattle.py_ast.specs.Parts.{Each, parts_of}
 use Rattle.py_parser.specs.declared.builder.Building.{Building}
 use Rattle.py_parser.specs.declared.parts.Form.{Form}
 use Rattle.py_parser.specs.declared.parts.Gathering.{Gathering}
