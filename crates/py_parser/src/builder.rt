@@ -226,6 +226,7 @@ impl<'a> Building<'a> {
     }
 
     /// Whether a guard holds here.
+    #[tactic(auto, unfolding(crate::specs::BuildingActs::holds))]
     pub(crate) fn holds(&self, limits: &Limits, guard: Guard) -> bool
         ensures { result ≡ holds limits.now guard self.now }
     {
