@@ -1,2 +1,5 @@
 pub mod ActLaws
 pub mod PartLaws
+pub mod SizeLaws
+pub mod StackLaws
+pub mod Terminals

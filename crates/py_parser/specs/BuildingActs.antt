@@ -7,9 +7,11 @@ use Rattle.py_grammar.specs.declared.act.Act.TheVariants as a
 use Rattle.py_grammar.specs.declared.symbol.Guard.{Guard}
 use Rattle.py_grammar.specs.declared.symbol.Guard.TheVariants as guard
 use Rattle.py_grammar.specs.declared.symbol.Limits.{Limits}
+use Rattle.py_grammar.specs.Building.{Builder}
 use Rattle.py_parser.specs.declared.builder.Building.{Building}
 use Rattle.py_parser.specs.declared.parts.Form.{Form}
 use Rattle.py_parser.specs.declared.parts.Form.TheVariants as form
+use Rattle.py_parser.specs.Building.{taken_in}
 use Rattle.py_parser.specs.BuildingExpressions.{attribute, binary, byte_string, call, compare, conditional, constant, empty_tuple, int, inverse, item, listed, name_tree, text, tuple, unary}
 use Rattle.py_parser.specs.BuildingFunctions.{begin_def, begin_lambda, end_def, end_lambda}
 use Rattle.py_parser.specs.BuildingLists.{add, add_link, add_name, begin_links, begin_list, begin_names, begin_with, mark, name, no_name, no_suite, suite, within}
@@ -110,3 +112,6 @@ holds limits guard.FewerArguments b = shorter limits.arguments (option_map (λ l
 holds limits guard.FewerParameters b = shorter limits.arguments (front b.name_lists)
 holds limits guard.Targets b = is_target (form_on_top b)
 holds limits guard.Place b = is_place (form_on_top b)
+
+abbrev pub builder : Builder Building
+builder = record { take_in = λ u b. taken_in u.text u.line b; act = acted; holds = holds }

@@ -3,4 +3,5 @@
 
 mod builder;
 mod parts;
+mod reading;
 mod table;
