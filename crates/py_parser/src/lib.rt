@@ -2,6 +2,9 @@
 #![tactic(auto)]
 
 mod builder;
+mod laws;
 mod parts;
 mod reading;
 mod table;
+
+pub use laws::trees_are_numbered;
