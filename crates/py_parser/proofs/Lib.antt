@@ -1,4 +1,5 @@
 pub mod ActLaws
+pub mod BuildingExamples
 pub mod DerivedLaws
 pub mod PartLaws
 pub mod SizeLaws
