@@ -1,5 +1,5 @@
 -- The parts of a node, by their numbers in written order, and the trees whose numbers are in order.
-use Rattle.std.specs.Prelude.{◌≡◌, ◌<◌, ◌+◌, ℕ, length, List, [], ◌∷◌, ◌++◌, map, slice_get, Option, Some}
+use Rattle.std.specs.Prelude.{◌≡◌, ◌<◌, ◌+◌, ℕ, length, List, [], ◌∷◌, ◌++◌, map, slice_get, Some}
 use Rattle.std.specs.Option.{option_to_list}
 use Rattle.py_ast.specs.declared.expression.Expression.{Expression}
 use Rattle.py_ast.specs.declared.expression.Expression.TheVariants as expression

@@ -1,5 +1,5 @@
 -- Each act keeps the numbers of parts below those of their nodes.
-use Rattle.std.proofs.Common.{◌≡◌, ◌<◌, ◌+◌, ℕ, List, [], ◌∷◌, ◌++◌, length, slice_get, slice_set, max, Option, None, Some, refl, subst, sym, ◌∙◌, arith, Bool, true, false}
+use Rattle.std.proofs.Common.{◌≡◌, ◌<◌, ◌+◌, ℕ, List, [], ◌∷◌, ◌++◌, length, slice_get, max, Option, None, Some, refl, subst, sym, ◌∙◌, arith, Bool, true, false}
 use Rattle.std.specs.Prelude.{ℤ, codes, if◌then◌else◌}
 use Rattle.std.specs.Option.{option_to_list}
 use Rattle.std.specs.Str.{bytes_eq}
@@ -34,7 +34,7 @@ use Rattle.py_parser.specs.declared.parts.Form.TheVariants as form
 use Rattle.py_parser.specs.declared.parts.Gathering.{Gathering}
 use Rattle.py_parser.specs.declared.parts.Sign.{Sign}
 use Rattle.py_parser.specs.declared.parts.Tree.{Tree}
-use Rattle.py_parser.specs.Building.{begun, place_tree, program, program_of, rooted, statement_tree, stuck, value_tree}
+use Rattle.py_parser.specs.Building.{begun, place_tree, program, program_of, rooted, statement_tree, value_tree}
 use Rattle.py_parser.specs.BuildingActs.{acted}
 use Rattle.py_parser.specs.BuildingExpressions.{attribute, binary, call, compare, conditional, constant, inverse, item, listed, name_tree, named, of_bytes, of_int, of_text, tuple, unary}
 use Rattle.py_parser.specs.BuildingFunctions.{with_function, begin_def, begin_lambda, end_def, end_lambda, without_function}
@@ -119,8 +119,10 @@ named_begins_none None w b = by_test (bytes_eq w (codes "NotImplemented"))
 
 name_keeps : (b : Building) → Sound b → Sound (name_tree b)
 name_keeps b k = place_keeps (named (builtin_of b.word) b.word) b.line b.line b k (named_has_none (builtin_of b.word) b.word b) (named_begins_none (builtin_of b.word) b.word b)
+
 constant_keeps : (v : Plain) (b : Building) → Sound b → Sound (constant v b)
 constant_keeps v b k = value_keeps (expression.Constant v) b.line b k tt tt
+
 int_keeps : (o : Option ℤ) (b : Building) → Sound b → Sound (of_int o b)
 int_keeps (Some n) b k = constant_keeps (plain.Int n) b k
 int_keeps None b k = stuck_keeps b k
@@ -185,12 +187,18 @@ with_function_keeps : (word : List ℕ) (ps : List Name) (b : Building) → Soun
 with_function_keeps word ps b k =
     let f : FunctionInfo = record { name = word; parameters = ps; locals = []; free = []; has_inner = false; parent = b.function; body = 0 } in
     record {
-        ordered = k.ordered; lined = k.lined; trees_in = k.trees_in; lists_in = k.lists_in; suites_in = k.suites_in; links_in = k.links_in;
-        functions_in = each_mono (λ n. Each (λ k. k < length b.functions) (functions_of n)) (λ n. Each (λ k. k < length (b.functions ++ f ∷ [])) (functions_of n))
-            (λ n h. each_up (length b.functions) (length (b.functions ++ f ∷ [])) (omega (arith, one_longer b.functions f)) (functions_of n) h) b.nodes k.functions_in;
-        bodies_in = each_append (λ g. g.body < max 1 (length b.nodes)) b.functions (f ∷ []) k.bodies_in (omega arith, tt);
-        nested = nested_push 0 b.functions f k.nested (each_up (length b.functions) (0 + length b.functions) (omega arith) (option_to_list b.function) k.open_in);
-        open_in = (omega (arith, one_longer b.functions f), tt) }
+      ordered = k.ordered;
+      lined = k.lined;
+      trees_in = k.trees_in;
+      lists_in = k.lists_in;
+      suites_in = k.suites_in;
+      links_in = k.links_in;
+      functions_in = each_mono (λ n. Each (λ k. k < length b.functions) (functions_of n)) (λ n. Each (λ k. k < length (b.functions ++ f ∷ [])) (functions_of n))
+          (λ n h. each_up (length b.functions) (length (b.functions ++ f ∷ [])) (omega (arith, one_longer b.functions f)) (functions_of n) h) b.nodes k.functions_in;
+      bodies_in = each_append (λ g. g.body < max 1 (length b.nodes)) b.functions (f ∷ []) k.bodies_in (omega arith, tt);
+      nested = nested_push 0 b.functions f k.nested (each_up (length b.functions) (0 + length b.functions) (omega arith) (option_to_list b.function) k.open_in);
+      open_in = (omega (arith, one_longer b.functions f), tt);
+    }
 
 begin_lambda_keeps : (ns : List (List Name)) (b : Building) → Sound b → Sound (begin_lambda ns b)
 begin_lambda_keeps (n ∷ ns) b k = with_function_keeps (codes "<lambda>") n (record b { name_lists = ns }) k
@@ -216,13 +224,19 @@ without_function_keeps : (number body : ℕ) (o : Option FunctionInfo) (b : Buil
 without_function_keeps number body (Some f) b i l k =
     let same : length (with_body number body b.functions) ≡ length b.functions = body_length number body (slice_get b.functions number) b.functions in
     record {
-        ordered = k.ordered; lined = k.lined; trees_in = k.trees_in; lists_in = k.lists_in; suites_in = k.suites_in; links_in = k.links_in;
-        functions_in = each_mono (λ n. Each (λ k. k < length b.functions) (functions_of n)) (λ n. Each (λ k. k < length (with_body number body b.functions)) (functions_of n))
-            (λ n h. each_up (length b.functions) (length (with_body number body b.functions)) (omega (arith, same)) (functions_of n) h) b.nodes k.functions_in;
-        bodies_in = body_bodies number body (length b.nodes) (slice_get b.functions number) b.functions l k.bodies_in;
-        nested = body_nested number body (slice_get b.functions number) b.functions refl k.nested;
-        open_in = each_up (0 + number) (length (with_body number body b.functions)) (omega (arith, same, slice_get_within b.functions number f i)) (option_to_list f.parent)
-            (parents_come_first 0 b.functions k.nested number f i) }
+      ordered = k.ordered;
+      lined = k.lined;
+      trees_in = k.trees_in;
+      lists_in = k.lists_in;
+      suites_in = k.suites_in;
+      links_in = k.links_in;
+      functions_in = each_mono (λ n. Each (λ k. k < length b.functions) (functions_of n)) (λ n. Each (λ k. k < length (with_body number body b.functions)) (functions_of n))
+          (λ n h. each_up (length b.functions) (length (with_body number body b.functions)) (omega (arith, same)) (functions_of n) h) b.nodes k.functions_in;
+      bodies_in = body_bodies number body (length b.nodes) (slice_get b.functions number) b.functions l k.bodies_in;
+      nested = body_nested number body (slice_get b.functions number) b.functions refl k.nested;
+      open_in = each_up (0 + number) (length (with_body number body b.functions)) (omega (arith, same, slice_get_within b.functions number f i)) (option_to_list f.parent)
+          (parents_come_first 0 b.functions k.nested number f i);
+    }
 without_function_keeps number body None b i l k = stuck_keeps b k
 
 without_function_knows : (number body m : ℕ) (o : Option FunctionInfo) (b : Building) → Known b m → Known (without_function number body o b) m
@@ -233,16 +247,16 @@ end_lambda_keeps : (o : Option ℕ) (ts : List Tree) (ms : List ℕ) (b : Buildi
 end_lambda_keeps (Some number) (t ∷ ts) (at ∷ ms) b x k h =
     let c : Building = record b { trees = ts; marks = ms } in
     value_keeps (expression.Lambda number) at (without_function number t.number (slice_get b.functions number) c)
-        (without_function_keeps number t.number (slice_get b.functions number) c refl h.0 (with_trees b ts k h.1)) tt
-        (without_function_knows number t.number number (slice_get b.functions number) c x.0, tt)
+    (without_function_keeps number t.number (slice_get b.functions number) c refl h.0 (with_trees b ts k h.1)) tt
+    (without_function_knows number t.number number (slice_get b.functions number) c x.0, tt)
 end_lambda_keeps _ _ _ b x k h = stuck_keeps b k
 
 end_def_keeps : (o : Option ℕ) (ss : List (Option ℕ)) (ms : List ℕ) (b : Building) → Each (Known b) (option_to_list o) → Sound b → SuitesIn b ss → Sound (end_def o ss ms b)
 end_def_keeps (Some number) (Some body ∷ ss) (at ∷ ms) b x k s =
     let c : Building = record b { suites = ss; marks = ms } in
     statement_keeps (statement.Def number) at (without_function number body (slice_get b.functions number) c)
-        (without_function_keeps number body (slice_get b.functions number) c refl s.0.0 (with_suites b ss k s.1)) tt
-        (without_function_knows number body number (slice_get b.functions number) c x.0, tt)
+    (without_function_keeps number body (slice_get b.functions number) c refl s.0.0 (with_suites b ss k s.1)) tt
+    (without_function_knows number body number (slice_get b.functions number) c x.0, tt)
 end_def_keeps _ _ _ b x k s = stuck_keeps b k
 
 -- statements
@@ -277,25 +291,25 @@ declare_keeps make none quiet _ _ b k = stuck_keeps b k
 branch_keeps : (ts : List Tree) (ss : List (Option ℕ)) (ms : List ℕ) (b : Building) → Sound b → TreesIn b ts → SuitesIn b ss → Sound (branch ts ss ms b)
 branch_keeps (t ∷ ts) (otherwise ∷ Some body ∷ ss) (at ∷ ms) b k h s =
     statement_keeps (statement.If t.number body otherwise) at (record b { trees = ts; suites = ss; marks = ms })
-        (again b ts b.lists ss b.links k h.1 k.lists_in s.1.1 k.links_in) (h.0, (s.1.0.0, s.0)) tt
+    (again b ts b.lists ss b.links k h.1 k.lists_in s.1.1 k.links_in) (h.0, (s.1.0.0, s.0)) tt
 branch_keeps _ _ _ b k h s = stuck_keeps b k
 
 other_branch_keeps : (ts : List Tree) (ss : List (Option ℕ)) (ms : List ℕ) (b : Building) → Sound b → TreesIn b ts → SuitesIn b ss → Sound (other_branch ts ss ms b)
 other_branch_keeps (t ∷ ts) (otherwise ∷ Some body ∷ ss) (at ∷ ms) b k h s =
     suite_keeps (statement.If t.number body otherwise) at (record b { trees = ts; suites = ss; marks = ms })
-        (again b ts b.lists ss b.links k h.1 k.lists_in s.1.1 k.links_in) (h.0, (s.1.0.0, s.0)) tt
+    (again b ts b.lists ss b.links k h.1 k.lists_in s.1.1 k.links_in) (h.0, (s.1.0.0, s.0)) tt
 other_branch_keeps _ _ _ b k h s = stuck_keeps b k
 
 loop_while_keeps : (ts : List Tree) (ss : List (Option ℕ)) (ms : List ℕ) (b : Building) → Sound b → TreesIn b ts → SuitesIn b ss → Sound (loop_while ts ss ms b)
 loop_while_keeps (t ∷ ts) (Some body ∷ ss) (at ∷ ms) b k h s =
     statement_keeps (statement.While t.number body) at (record b { trees = ts; suites = ss; marks = ms })
-        (again b ts b.lists ss b.links k h.1 k.lists_in s.1 k.links_in) (h.0, (s.0.0, tt)) tt
+    (again b ts b.lists ss b.links k h.1 k.lists_in s.1 k.links_in) (h.0, (s.0.0, tt)) tt
 loop_while_keeps _ _ _ b k h s = stuck_keeps b k
 
 attempt_keeps : (ls : List Gathering) (ss : List (Option ℕ)) (ms : List ℕ) (b : Building) → Sound b → ListsIn b ls → SuitesIn b ss → Sound (attempt ls ss ms b)
 attempt_keeps (l ∷ ls) (last ∷ Some body ∷ ss) (at ∷ ms) b k x s =
     statement_keeps (statement.Try body l.numbers last) at (record b { lists = ls; suites = ss; marks = ms })
-        (again b b.trees ls ss b.links k k.trees_in x.1 s.1.1 k.links_in) (s.1.0.0, each_append (In b) l.numbers (option_to_list last) x.0 s.0) tt
+    (again b b.trees ls ss b.links k k.trees_in x.1 s.1.1 k.links_in) (s.1.0.0, each_append (In b) l.numbers (option_to_list last) x.0 s.0) tt
 attempt_keeps _ _ _ b k x s = stuck_keeps b k
 
 handler_keeps : (os : List (List Name)) (ns : List (Option Name)) (ss : List (Option ℕ)) (ms : List ℕ) (b : Building) → Sound b → SuitesIn b ss → Sound (handler os ns ss ms b)
@@ -342,7 +356,7 @@ places_length (n ∷ numbers) ns = places_length numbers (with_place n ns) ∙ p
 tuple_ordered : (number : ℕ) (o : Option Node) (ns : List Node) → slice_get ns number ≡ o → Ordered 0 ns → Ordered 0 (tuple_at number o ns)
 tuple_ordered number (Some (node.Expression (expression.Tuple numbers))) ns i h =
     ordered_put 0 (with_places numbers ns) number (node.Target (target.Tuple numbers)) (places_ordered numbers ns h)
-        (parts_come_first 0 ns h number (node.Expression (expression.Tuple numbers)) i)
+    (parts_come_first 0 ns h number (node.Expression (expression.Tuple numbers)) i)
 tuple_ordered number _ ns i h = h
 
 tuple_length : (number : ℕ) (o : Option Node) (ns : List Node) → length (tuple_at number o ns) ≡ length ns
@@ -393,13 +407,13 @@ still t b n h = omega (arith, aimed_length t.form t.number b.nodes, h)
 assign_keeps : (ts : List Tree) (b : Building) → Sound b → TreesIn b ts → Sound (assign ts b)
 assign_keeps (value ∷ target ∷ ts) b k h = let c : Building = record b { trees = ts } in
     statement_keeps (statement.Assign target.number value.number) target.line (aim target c) (aim_keeps target c (with_trees b ts k h.1.1))
-        (still target c target.number h.1.0, (still target c value.number h.0, tt)) tt
+    (still target c target.number h.1.0, (still target c value.number h.0, tt)) tt
 assign_keeps _ b k h = stuck_keeps b k
 
 augment_keeps : (ts : List Tree) (ss : List BinaryOp) (b : Building) → Sound b → TreesIn b ts → Sound (augment ts ss b)
 augment_keeps (value ∷ target ∷ ts) (op ∷ ss) b k h = let c : Building = record b { trees = ts; signs = ss } in
     statement_keeps (statement.Augmented target.number op value.number) target.line (aim target c) (aim_keeps target c (with_trees b ts k h.1.1))
-        (still target c target.number h.1.0, (still target c value.number h.0, tt)) tt
+    (still target c target.number h.1.0, (still target c value.number h.0, tt)) tt
 augment_keeps _ _ b k h = stuck_keeps b k
 
 delete_keeps : (ts : List Tree) (ms : List ℕ) (b : Building) → Sound b → TreesIn b ts → Sound (delete ts ms b)
@@ -410,8 +424,8 @@ delete_keeps _ _ b k h = stuck_keeps b k
 loop_over_keeps : (ts : List Tree) (ss : List (Option ℕ)) (ms : List ℕ) (b : Building) → Sound b → TreesIn b ts → SuitesIn b ss → Sound (loop_over ts ss ms b)
 loop_over_keeps (source ∷ target ∷ ts) (Some body ∷ ss) (at ∷ ms) b k h s = let c : Building = record b { trees = ts; suites = ss; marks = ms } in
     statement_keeps (statement.For target.number source.number body) at (aim target c)
-        (aim_keeps target c (again b ts b.lists ss b.links k h.1.1 k.lists_in s.1 k.links_in))
-        (still target c target.number h.1.0, (still target c source.number h.0, (still target c body s.0.0, tt))) tt
+    (aim_keeps target c (again b ts b.lists ss b.links k h.1.1 k.lists_in s.1 k.links_in))
+    (still target c target.number h.1.0, (still target c source.number h.0, (still target c body s.0.0, tt))) tt
 loop_over_keeps _ _ _ b k h s = stuck_keeps b k
 
 -- all acts
@@ -493,12 +507,13 @@ rooted_sound (n ∷ ns) b e k = (k, subst (λ ms. 0 < length ms) e (omega arith)
 
 numbered : (is_expression : Bool) (b : Building) → 0 < length b.nodes → Sound b → IsNumbered (program is_expression b)
 numbered is_expression b some k = record {
-    parts = λ number n e. each_up (0 + number) number (omega arith) (parts_of n) (parts_come_first 0 b.nodes k.ordered number n e);
-    root = omega (arith, some);
-    lines = k.lined;
-    functions = k.functions_in;
-    bodies = each_mono (λ f. f.body < max 1 (length b.nodes)) (λ f. f.body < length b.nodes) (λ f l. omega (arith, some, l)) b.functions k.bodies_in;
-    parents = λ number f e. each_up (0 + number) number (omega arith) (option_to_list f.parent) (parents_come_first 0 b.functions k.nested number f e) }
+  parts = λ number n e. each_up (0 + number) number (omega arith) (parts_of n) (parts_come_first 0 b.nodes k.ordered number n e);
+  root = omega (arith, some);
+  lines = k.lined;
+  functions = k.functions_in;
+  bodies = each_mono (λ f. f.body < max 1 (length b.nodes)) (λ f. f.body < length b.nodes) (λ f l. omega (arith, some, l)) b.functions k.bodies_in;
+  parents = λ number f e. each_up (0 + number) number (omega arith) (option_to_list f.parent) (parents_come_first 0 b.functions k.nested number f e);
+}
 
 pub programs_are_numbered : (is_expression : Bool) (b : Building) → Sound b → IsNumbered (program_of is_expression b)
 programs_are_numbered is_expression b k = let r : Sound (rooted b.nodes b) × (0 < length (rooted b.nodes b).nodes) = rooted_sound b.nodes b refl k in

@@ -1,7 +1,6 @@
 -- Texts with the nodes of their trees, in order, computed by the checker from the grammar's table.
-use Rattle.std.proofs.Common.{◌≡◌, ℕ, List, [], ◌∷◌, Option, Some, None, true, false, refl}
+use Rattle.std.proofs.Common.{◌≡◌, ℕ, List, [], ◌∷◌, Option, Some, None, false, refl}
 use Rattle.std.specs.Prelude.{codes, pos, ◌++◌}
-use Rattle.py_ast.specs.declared.builtin.Builtin.TheVariants as builtin
 use Rattle.py_ast.specs.declared.expression.Comparison.TheVariants as comparison
 use Rattle.py_ast.specs.declared.expression.Expression.TheVariants as expression
 use Rattle.py_ast.specs.declared.node.Node.{Node}

@@ -1,6 +1,6 @@
 -- What is built of a text keeps its parts before their nodes.
 use Rattle.std.specs.Prelude.{Bool, List}
-use Rattle.std.proofs.Common.{◌≡◌, subst}
+use Rattle.std.proofs.Common.{subst}
 use Rattle.py_ast.specs.Parts.{IsNumbered}
 use Rattle.py_grammar.specs.declared.symbol.Limits.{Limits}
 use Rattle.py_grammar.specs.declared.symbol.Symbol.{Symbol}

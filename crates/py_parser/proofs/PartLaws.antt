@@ -149,18 +149,25 @@ one_longer (y ∷ xs) x = ap suc (one_longer xs x)
 pub wider : (ms : List Node) (ls : List ℕ) (b : Building) → length b.nodes ≤ length ms → Ordered 0 ms → length ls ≡ length ms → FunctionsIn b.functions ms → Sound b
     → Waits ms ls b.functions b.function b.trees b.lists b.suites b.links
 wider ms ls b up o e x k = record {
-    ordered = o; lined = e; functions_in = x; nested = k.nested; open_in = k.open_in;
-    bodies_in = each_mono (λ f. f.body < max 1 (length b.nodes)) (λ f. f.body < max 1 (length ms)) (λ f l. less_body f.body l) b.functions k.bodies_in;
-    trees_in = each_mono (λ t. t.number < length b.nodes) (λ t. t.number < length ms) (λ t l. less t.number l) b.trees k.trees_in;
-    lists_in = each_mono (λ l. Each (λ n. n < length b.nodes) l.numbers) (λ l. Each (λ n. n < length ms) l.numbers) (λ l h. less_each l.numbers h) b.lists k.lists_in;
-    suites_in = each_mono (λ s. Each (λ n. n < length b.nodes) (option_to_list s)) (λ s. Each (λ n. n < length ms) (option_to_list s)) (λ s h. less_each (option_to_list s) h) b.suites k.suites_in;
-    links_in = each_mono (λ ls. Each (λ l. l.right < length b.nodes) ls) (λ ls. Each (λ l. l.right < length ms) ls)
-        (λ ls h. each_mono (λ l. l.right < length b.nodes) (λ l. l.right < length ms) (λ l s. less l.right s) ls h) b.links k.links_in }
+  ordered = o;
+  lined = e;
+  functions_in = x;
+  nested = k.nested;
+  open_in = k.open_in;
+  bodies_in = each_mono (λ f. f.body < max 1 (length b.nodes)) (λ f. f.body < max 1 (length ms)) (λ f l. less_body f.body l) b.functions k.bodies_in;
+  trees_in = each_mono (λ t. t.number < length b.nodes) (λ t. t.number < length ms) (λ t l. less t.number l) b.trees k.trees_in;
+  lists_in = each_mono (λ l. Each (λ n. n < length b.nodes) l.numbers) (λ l. Each (λ n. n < length ms) l.numbers) (λ l h. less_each l.numbers h) b.lists k.lists_in;
+  suites_in = each_mono (λ s. Each (λ n. n < length b.nodes) (option_to_list s)) (λ s. Each (λ n. n < length ms) (option_to_list s)) (λ s h. less_each (option_to_list s) h) b.suites k.suites_in;
+  links_in = each_mono (λ ls. Each (λ l. l.right < length b.nodes) ls) (λ ls. Each (λ l. l.right < length ms) ls)
+      (λ ls h. each_mono (λ l. l.right < length b.nodes) (λ l. l.right < length ms) (λ l s. less l.right s) ls h) b.links k.links_in;
+}
   where
     less_body : (n : ℕ) → n < max 1 (length b.nodes) → n < max 1 (length ms)
     less_body n s = omega (arith, up, s)
+
     less : (n : ℕ) → n < length b.nodes → n < length ms
     less n s = omega (arith, up, s)
+
     less_each : (xs : List ℕ) → Each (λ n. n < length b.nodes) xs → Each (λ n. n < length ms) xs
     less_each xs = each_up (length b.nodes) (length ms) up xs
 

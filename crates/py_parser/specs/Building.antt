@@ -78,7 +78,13 @@ rooted (n ∷ ns) b = b
 
 abbrev pub program : Bool → Building → Program
 program is_expression b = record {
-    nodes = b.nodes; lines = b.lines; root = length b.nodes - 1; functions = b.functions; handler_names = []; is_expression = is_expression }
+  nodes = b.nodes;
+  lines = b.lines;
+  root = length b.nodes - 1;
+  functions = b.functions;
+  handler_names = [];
+  is_expression = is_expression;
+}
 
 -- The tree of a whole text: the node that was made last is its root.
 abbrev pub program_of : Bool → Building → Program

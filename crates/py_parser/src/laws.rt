@@ -12,5 +12,4 @@ ghost use Rattle.py_parser.specs.BuildingActs.{builder};
 pub fn trees_are_numbered()
     ensures { (limits : Limits) (symbols : List Symbol) (text : List Lexeme) (out : Building) (is_expression : Bool)
         → Derives Building builder limits symbols begun text out → IsNumbered (program_of is_expression out) }
-{
-}
+{}
