@@ -1,3 +1,7 @@
+pub mod ActLaws
+pub mod BuildingExamples
+pub mod DerivedLaws
+pub mod PartLaws
 pub mod PlaceLaws
 pub mod ReadLaws
 pub mod SameLaws

@@ -2,10 +2,12 @@
 #![tactic(auto)]
 
 mod builder;
+mod laws;
 mod parsing;
 mod parts;
 mod reading;
 mod table;
 mod terminals;
 
+pub use laws::trees_are_numbered;
 pub use parsing::{ParseEnd, parse, parse_expr};
