@@ -240,7 +240,6 @@ fn open_text(alloc: Global, start: Start) -> Result<Stack<Symbol>, NoMemory>
 }
 
 /// Reads the tokens and the end of the text. Time is linear in the tokens.
-#[tactic(auto, using(crate::proofs::ReadLaws::never_last))]
 pub(crate) fn read<'a>(
     alloc: Global,
     limits: &Limits,
