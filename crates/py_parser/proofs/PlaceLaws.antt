@@ -9,17 +9,19 @@ use Rattle.py_grammar.specs.Building.{Lexeme}
 use Rattle.py_grammar.specs.Reading.{has, Stuck}
 use Rattle.py_grammar.specs.Refusals.{leading, IsAt, IsRefused, left_out, literals, ends_in_literal, belongs_to_left_out, any_depth, unlimited, rule_of}
 use Rattle.py_grammar.specs.Table.{opening}
-use Rattle.py_grammar.proofs.TextLaws.{stops-inside, tells-the-rule}
+use Rattle.py_grammar.proofs.TextLaws.{reads-exactly, stops-inside, tells-the-rule}
 use Rattle.py_grammar.proofs.RefusalLaws.{nowhere}
 use Rattle.py_lexer.specs.declared.token.Token.{Token}
 use Rattle.rp_base.specs.declared.rules.Refused.{Refused}
 use Rattle.rp_base.specs.declared.rules.Rule.{Rule}
 use Rattle.py_parser.specs.declared.builder.Building.{Building}
-use Rattle.py_parser.specs.Building.{begun}
+use Rattle.py_parser.specs.declared.reading.Reached.{Reached}
+use Rattle.py_parser.specs.declared.reading.Reached.TheVariants as reached
+use Rattle.py_parser.specs.Building.{begun, program_of}
 use Rattle.py_parser.specs.BuildingActs.{builder}
 use Rattle.py_parser.specs.Lexemes.{lexeme_in, end_of, lexemes, last_line}
-use Rattle.py_parser.specs.Parsing.{script_limits, IsFirstMisfit, kind_at, kind_before, line_at, is_left_out_at, passes_under, rule_at}
-use Rattle.py_parser.specs.Stepping.{read_on}
+use Rattle.py_parser.specs.Parsing.{script_limits, is_expression, HasTree, IsFirstMisfit, kind_at, kind_before, line_at, is_left_out_at, passes_under, rule_at}
+use Rattle.py_parser.specs.Stepping.{outcome_of, read_on}
 
 -- ---- at the tokens of a text
 
@@ -79,3 +81,8 @@ misfit_of start text tokens n refused e r l =
     let same : rule_of (passes_under (any_depth script_limits) start n ts) (passes_under unlimited start n ts) (belongs_to_left_out (leading n ts) here.0) ≡ refused.rule =
     ap (λ b. rule_of (passes_under (any_depth script_limits) start n ts) (passes_under unlimited start n ts) b) (left_out_is n ts here.0 here.1) ∙ sym r in
     (n, here.0, subst (λ x. IsRefused Building builder script_limits (opening start) begun ts n here.0 x) same told, l ∙ line_is (last_line text) n ts here.0 here.1)
+
+pub tree_of : (start : Start) (ts : List Lexeme) (b : Building) (program : Program) (flag : Bool) (came : Reached) → outcome_of came ≡ read_on script_limits (opening start) begun ts → came ≡ reached.Done b
+    → flag ≡ is_expression start → program ≡ program_of flag b → HasTree start ts program
+tree_of start ts b program flag came e d f p =
+    (b, (reads-exactly Building builder script_limits start begun b ts).0 (sym e ∙ ap outcome_of d), p ∙ ap (λ x. program_of x b) f)

@@ -8,6 +8,8 @@ mod parts;
 mod reading;
 mod table;
 mod terminals;
+#[cfg(test)]
+mod tests;
 
 pub use laws::trees_are_numbered;
 pub use parsing::{ParseEnd, parse, parse_expr};

@@ -195,7 +195,6 @@ fn kind_at(tokens: &[Token], text: &str, place: usize) -> Terminal
     }
 }
 
-#[tactic(auto, using(crate::proofs::PlaceLaws::one_before))]
 fn kind_before(tokens: &[Token], text: &str, place: usize) -> Terminal
     ensures { result ≡ kind_before place (lexemes text.now tokens.now) }
 {
