@@ -1,10 +1,12 @@
--- The parts of a node, by their numbers in written order.
-use Rattle.std.specs.Prelude.{◌≡◌, ◌<◌, ℕ, List, [], ◌∷◌, ◌++◌, map, slice_get, Option, Some}
+-- The parts of a node, by their numbers in written order, and the trees whose numbers are in order.
+use Rattle.std.specs.Prelude.{◌≡◌, ◌<◌, ◌+◌, ℕ, length, List, [], ◌∷◌, ◌++◌, map, slice_get, Some}
 use Rattle.std.specs.Option.{option_to_list}
 use Rattle.py_ast.specs.declared.expression.Expression.{Expression}
 use Rattle.py_ast.specs.declared.expression.Expression.TheVariants as expression
 use Rattle.py_ast.specs.declared.node.Node.{Node}
 use Rattle.py_ast.specs.declared.node.Node.TheVariants as node
+use Rattle.py_ast.specs.declared.program.FunctionInfo.{FunctionInfo}
+use Rattle.py_ast.specs.declared.program.Program.{Program}
 use Rattle.py_ast.specs.declared.statement.Statement.{Statement}
 use Rattle.py_ast.specs.declared.statement.Statement.TheVariants as statement
 use Rattle.py_ast.specs.declared.target.Target.{Target}
@@ -67,6 +69,17 @@ abbrev pub Each : {A : Type 0} → (A → Type 0) → List A → Type 0
 Each P [] = Unit {0}
 Each P (x ∷ xs) = P x × Each P xs
 
--- A node's parts have smaller numbers than the node.
-abbrev pub PartsComeFirst : List Node → Type 0
-PartsComeFirst nodes = (i : ℕ) (n : Node) → slice_get nodes i ≡ Some n → Each (λ part. part < i) (parts_of n)
+-- the function that a node begins
+abbrev pub functions_of : Node → List ℕ
+functions_of (node.Expression (expression.Lambda function)) = function ∷ []
+functions_of (node.Statement (statement.Def function)) = function ∷ []
+functions_of _ = []
+
+-- Each node's parts stand before it, the root is the last node, and each number of a line, a function or a body is one.
+pub record IsNumbered (p : Program) : Type 0 where
+  pub parts : (number : ℕ) (n : Node) → slice_get p.nodes number ≡ Some n → Each (λ part. part < number) (parts_of n)
+  pub root : p.root + 1 ≡ length p.nodes
+  pub lines : length p.lines ≡ length p.nodes
+  pub functions : Each (λ n. Each (λ function. function < length p.functions) (functions_of n)) p.nodes
+  pub bodies : Each (λ f. f.body < length p.nodes) p.functions
+  pub parents : (number : ℕ) (f : FunctionInfo) → slice_get p.functions number ≡ Some f → Each (λ parent. parent < number) (option_to_list f.parent)

@@ -1,4 +1,5 @@
 pub mod EndLaws
+pub mod Examples
 pub mod ExactLaws
 pub mod PieceLaws
 pub mod RefusalLaws

@@ -47,7 +47,7 @@ fronts-begin B m lim ss b ts k n h c =
     subst (λ x. CanBegin B m lim ss b x) (front-front k n ts h) z
 
 module _ (B : Type 0) (m : Builder B) (lim : Limits) (ss : List Symbol) (b : B) (ts : List Lexeme) (n : ℕ) (u : Lexeme) where
-  passed-of : (o : Outcome B) → in_reach lim ss ≡ true → run B m lim ss b ts ≡ o → IsAt n ts u → passed B n o ≡ true → CanBegin B m lim ss b (leading n ts ++ (u ∷ []))
+  pub passed-of : (o : Outcome B) → in_reach lim ss ≡ true → run B m lim ss b ts ≡ o → IsAt n ts u → passed B n o ≡ true → CanBegin B m lim ss b (leading n ts ++ (u ∷ []))
   passed-of (Done out) r e i h =
       let y = rest-of (suc n) ts in
       let whole : CanBegin B m lim ss b (leading (suc n) ts ++ y.0) = ([], out, subst (λ x. Derives B m lim ss b x out) (sym (append-nil (leading (suc n) ts ++ y.0) ∙ y.1)) (done-derives B m lim ts ss b out e)) in

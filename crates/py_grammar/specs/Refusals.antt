@@ -8,7 +8,7 @@ use Rattle.py_grammar.specs.declared.terminal.Terminal.{Terminal}
 use Rattle.py_grammar.specs.declared.terminal.Terminal.TheVariants as t
 use Rattle.py_grammar.specs.Building.{Lexeme, Builder}
 use Rattle.py_grammar.specs.Deriving.{CanBegin}
-use Rattle.py_grammar.specs.Reading.{Outcome, Done, Stuck}
+use Rattle.py_grammar.specs.Reading.{Outcome, Done, Stuck, has}
 
 -- the first n tokens
 abbrev pub leading : ℕ → List Lexeme → List Lexeme
@@ -35,30 +35,20 @@ abbrev pub unlimited : Limits
 unlimited = record { levels = unreached; arguments = unreached }
 
 -- keywords and signs of forms that are left out
-abbrev pub is_left_out : Terminal → Bool
-is_left_out t.LeftOutWord = true
-is_left_out t.Else = true
-is_left_out t.For = true
-is_left_out t.LeftOutSign = true
-is_left_out t.Assign = true
-is_left_out t.Colon = true
-is_left_out t.Star = true
-is_left_out t.DoubleStar = true
-is_left_out _ = false
+abbrev pub left_out : List Terminal
+left_out = t.LeftOutWord ∷ t.Else ∷ t.For ∷ t.LeftOutSign ∷ t.Assign ∷ t.Colon ∷ t.Star ∷ t.DoubleStar ∷ []
 
-abbrev pub is_literal : Terminal → Bool
-is_literal t.Text = true
-is_literal t.Bytes = true
-is_literal _ = false
+abbrev pub literals : List Terminal
+literals = t.Text ∷ t.Bytes ∷ []
 
 abbrev pub ends_in_literal : List Lexeme → Bool
 ends_in_literal [] = false
-ends_in_literal (u ∷ []) = is_literal u.kind
+ends_in_literal (u ∷ []) = has u.kind literals
 ends_in_literal (u ∷ v ∷ vs) = ends_in_literal (v ∷ vs)
 
 -- the token belongs to a form that is left out: by itself, or as a literal behind a literal
 abbrev pub belongs_to_left_out : List Lexeme → Lexeme → Bool
-belongs_to_left_out before u = is_left_out u.kind || (is_literal u.kind && ends_in_literal before)
+belongs_to_left_out before u = has u.kind left_out || (has u.kind literals && ends_in_literal before)
 
 -- u does not fit behind the tokens before it, and breaks this rule: it would fit if the text could nest deeper; if more parameters and arguments could stand there too;
 -- it belongs to a form that is left out; or none of these

@@ -1,10 +1,11 @@
 -- What is built while a text is read.
-use Rattle.std.specs.Prelude.{ℕ, ◌-◌, Bool, List, [], ◌∷◌, ◌++◌, length, Option, Some, None}
+use Rattle.std.specs.Prelude.{ℕ, ◌-◌, Bool, List, [], ◌∷◌, ◌++◌, length, Some, None}
 use Rattle.py_ast.specs.declared.expression.Expression.{Expression}
 use Rattle.py_ast.specs.declared.node.Node.{Node}
 use Rattle.py_ast.specs.declared.node.Node.TheVariants as node
 use Rattle.py_ast.specs.declared.program.Program.{Program}
 use Rattle.py_ast.specs.declared.statement.Statement.{Statement}
+use Rattle.py_ast.specs.declared.statement.Statement.TheVariants as statement
 use Rattle.py_parser.specs.declared.parts.Form.{Form}
 use Rattle.py_parser.specs.declared.parts.Form.TheVariants as form
 use Rattle.py_parser.specs.declared.builder.Building.{Building}
@@ -70,9 +71,13 @@ place_tree e at first_line b = with_tree (node.Expression e) at first_line form.
 abbrev pub statement_tree : Statement → ℕ → Building → Building
 statement_tree s at b = with_tree (node.Statement s) at at form.Value b
 
--- The tree of a whole text: the node that was made last is its root.
-abbrev pub program_of : Bool → Building → Program
-program_of is_expression b = record {
+-- there is a node at least
+abbrev pub rooted : List Node → Building → Building
+rooted [] b = with_node (node.Statement (statement.Suite [])) b.line b
+rooted (n ∷ ns) b = b
+
+abbrev pub program : Bool → Building → Program
+program is_expression b = record {
   nodes = b.nodes;
   lines = b.lines;
   root = length b.nodes - 1;
@@ -80,3 +85,7 @@ program_of is_expression b = record {
   handler_names = [];
   is_expression = is_expression;
 }
+
+-- The tree of a whole text: the node that was made last is its root.
+abbrev pub program_of : Bool → Building → Program
+program_of is_expression b = program is_expression (rooted b.nodes b)

@@ -1,5 +1,5 @@
 -- What each act of the grammar builds, and which guards hold.
-use Rattle.std.specs.Prelude.{ℕ, Bool, true, false, List, [], ◌∷◌, length, nat_lt, Option, None, Some, option_map}
+use Rattle.std.specs.Prelude.{ℕ, Bool, true, false, List, length, nat_lt, Option, None, Some, option_map}
 use Rattle.py_ast.specs.declared.expression.Expression.TheVariants as expression
 use Rattle.py_ast.specs.declared.statement.Statement.TheVariants as statement
 use Rattle.py_grammar.specs.declared.act.Act.{Act}
@@ -11,7 +11,6 @@ use Rattle.py_grammar.specs.Building.{Builder}
 use Rattle.py_parser.specs.declared.builder.Building.{Building}
 use Rattle.py_parser.specs.declared.parts.Form.{Form}
 use Rattle.py_parser.specs.declared.parts.Form.TheVariants as form
-use Rattle.py_parser.specs.declared.parts.Tree.{Tree}
 use Rattle.py_parser.specs.Building.{taken_in}
 use Rattle.py_parser.specs.BuildingExpressions.{attribute, binary, byte_string, call, compare, conditional, constant, empty_tuple, int, inverse, item, listed, name_tree, text, tuple, unary}
 use Rattle.py_parser.specs.BuildingFunctions.{begin_def, begin_lambda, end_def, end_lambda}
@@ -108,7 +107,7 @@ is_target _ = false
 abbrev pub form_on_top : Building → Option Form
 form_on_top b = option_map (λ tree. tree.form) (front b.trees)
 
-abbrev pub holds : Limits → Guard → Building → Bool
+unfoldable pub holds : Limits → Guard → Building → Bool
 holds limits guard.FewerArguments b = shorter limits.arguments (option_map (λ l. l.numbers) (front b.lists))
 holds limits guard.FewerParameters b = shorter limits.arguments (front b.name_lists)
 holds limits guard.Targets b = is_target (form_on_top b)

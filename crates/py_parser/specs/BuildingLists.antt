@@ -1,5 +1,5 @@
 -- Marks, names and lists that wait to be used.
-use Rattle.std.specs.Prelude.{ℕ, List, [], ◌∷◌, ◌++◌, length, Option, Some, None}
+use Rattle.std.specs.Prelude.{ℕ, List, [], ◌∷◌, ◌++◌, Some, None}
 use Rattle.py_ast.specs.declared.expression.Link.{Link}
 use Rattle.py_ast.specs.declared.name.Name.{Name}
 use Rattle.py_ast.specs.declared.statement.Statement.TheVariants as statement

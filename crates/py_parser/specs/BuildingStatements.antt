@@ -1,5 +1,5 @@
 -- The statements that acts make of the parts that wait. Lists of parts have the last one first.
-use Rattle.std.specs.Prelude.{ℕ, List, [], ◌∷◌, Option, Some, None}
+use Rattle.std.specs.Prelude.{ℕ, List, [], ◌∷◌, Option, Some}
 use Rattle.py_ast.specs.declared.name.Name.{Name}
 use Rattle.py_ast.specs.declared.statement.Statement.{Statement}
 use Rattle.py_ast.specs.declared.statement.Statement.TheVariants as statement

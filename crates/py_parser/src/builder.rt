@@ -1,6 +1,6 @@
 ghost use Rattle.std.specs.Prelude.{◌≡◌, length, IfOk};
 ghost use Rattle.py_parser.specs.BuildingActs.{acted, holds};
-ghost use Rattle.py_parser.specs.Building.{begun, program_of, stuck, taken_in, with_node, with_tree, with_suite, place_tree, statement_tree, value_tree};
+ghost use Rattle.py_parser.specs.Building.{begun, program_of, rooted, stuck, taken_in, with_node, with_tree, with_suite, place_tree, statement_tree, value_tree};
 
 mod expressions;
 mod functions;
@@ -226,6 +226,7 @@ impl<'a> Building<'a> {
     }
 
     /// Whether a guard holds here.
+    #[tactic(auto, unfolding(crate::specs::BuildingActs::holds))]
     pub(crate) fn holds(&self, limits: &Limits, guard: Guard) -> bool
         ensures { result ≡ holds limits.now guard self.now }
     {
@@ -257,9 +258,10 @@ impl<'a> Building<'a> {
 
     /// The tree of a text that was read to its end. Names are not told apart yet: no function has its own names, and no
     /// handler's name is listed.
-    pub(crate) fn finish(self, alloc: Global, is_expression: bool) -> Result<Program, NoMemory>
+    pub(crate) fn finish(mut self, alloc: Global, is_expression: bool) -> Result<Program, NoMemory>
         ensures { IfOk result (λ p. p ≡ program_of is_expression self.entry) }
     {
+        self.root(alloc)?;
         let Ok(root) = u32::try_from(self.nodes.len().saturating_sub(1)) else {
             return Err(NoMemory);
         };
@@ -271,5 +273,19 @@ impl<'a> Building<'a> {
             handler_names: Items::new(alloc),
             is_expression,
         })
+    }
+
+    /// Sees to it that there is a node.
+    fn root(&mut self, alloc: Global) -> Result<(), NoMemory>
+        ensures { IfOk result (λ _. self.new ≡ rooted self.old.nodes self.old) }
+    {
+        match self.nodes.as_slice() {
+            [] => {
+                let suite = Statement::Suite(Items::new(alloc));
+                self.push_node(Node::Statement(suite), self.line)?;
+                Ok(())
+            }
+            [_, ..] => Ok(()),
+        }
     }
 }

@@ -2,5 +2,14 @@
 #![tactic(auto)]
 
 mod builder;
+mod laws;
+mod parsing;
 mod parts;
+mod reading;
 mod table;
+mod terminals;
+#[cfg(test)]
+mod tests;
+
+pub use laws::trees_are_numbered;
+pub use parsing::{ParseEnd, parse, parse_expr};
