@@ -1,6 +1,10 @@
+ghost use Rattle.std.specs.Prelude.{◌≡◌, IfOk};
+
 use crate::builtin::Builtin;
-use rp_base::{BinaryOp, CmpOp, Plain, Text, UnaryOp};
+use crate::copying::{copy_links, copy_numbers};
+use rp_base::{BinaryOp, CmpOp, NoMemory, Plain, Text, UnaryOp};
 use sqlite_items::Items;
+use std::alloc::Global;
 
 /// What a link of a chain of comparisons asks.
 #[derive(Clone, Copy, Debug, PartialEq, Eq)]
@@ -72,4 +76,48 @@ pub enum Expression {
         callee: u32,
         arguments: Items<u32>,
     },
+}
+
+impl Expression {
+    /// An equal expression of its own.
+    pub fn copy(&self, alloc: Global) -> Result<Expression, NoMemory>
+        ensures { IfOk result (λ e. e ≡ self.now) }
+    {
+        match self {
+            Expression::Name(text) => Ok(Expression::Name(text.copy(alloc)?)),
+            &Expression::Builtin(builtin) => Ok(Expression::Builtin(builtin)),
+            Expression::Constant(value) => Ok(Expression::Constant(value.copy(alloc)?)),
+            Expression::Tuple(items) => Ok(Expression::Tuple(copy_numbers(items, alloc)?)),
+            Expression::List(items) => Ok(Expression::List(copy_numbers(items, alloc)?)),
+            Expression::Dict(items) => Ok(Expression::Dict(copy_numbers(items, alloc)?)),
+            &Expression::Lambda(function) => Ok(Expression::Lambda(function)),
+            &Expression::Conditional {
+                then,
+                test,
+                otherwise,
+            } => Ok(Expression::Conditional {
+                then,
+                test,
+                otherwise,
+            }),
+            Expression::Or(operands) => Ok(Expression::Or(copy_numbers(operands, alloc)?)),
+            Expression::And(operands) => Ok(Expression::And(copy_numbers(operands, alloc)?)),
+            Expression::Compare { first, links } => Ok(Expression::Compare {
+                first: *first,
+                links: copy_links(links, alloc)?,
+            }),
+            &Expression::Not(operand) => Ok(Expression::Not(operand)),
+            &Expression::Unary { op, operand } => Ok(Expression::Unary { op, operand }),
+            &Expression::Binary { op, left, right } => Ok(Expression::Binary { op, left, right }),
+            Expression::Attribute { receiver, name } => Ok(Expression::Attribute {
+                receiver: *receiver,
+                name: name.copy(alloc)?,
+            }),
+            &Expression::Item { receiver, key } => Ok(Expression::Item { receiver, key }),
+            Expression::Call { callee, arguments } => Ok(Expression::Call {
+                callee: *callee,
+                arguments: copy_numbers(arguments, alloc)?,
+            }),
+        }
+    }
 }

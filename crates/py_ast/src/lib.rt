@@ -2,12 +2,15 @@
 #![tactic(auto)]
 
 mod builtin;
+mod copying;
 mod expression;
 mod name;
 mod node;
 mod program;
 mod statement;
 mod target;
+#[cfg(test)]
+mod tests;
 
 pub use builtin::Builtin;
 pub use expression::{Comparison, Expression, Link};

@@ -1,9 +1,11 @@
-ghost use Rattle.std.specs.Prelude.{◌≡◌, ◌<◌, length, slice_get, Some};
+ghost use Rattle.std.specs.Prelude.{◌≡◌, ◌<◌, length, slice_get, Some, IfOk};
 
+use crate::copying::{copy_names, copy_numbers, copy_texts};
 use crate::name::Name;
 use crate::node::Node;
-use rp_base::Text;
+use rp_base::{NoMemory, Text};
 use sqlite_items::Items;
+use std::alloc::Global;
 
 /// A function of a script: a `def` or a `lambda`.
 #[derive(Drop)]
@@ -22,6 +24,23 @@ pub struct FunctionInfo {
     pub parent: Option<u32>,
     /// The number of its suite, or of a lambda's expression.
     pub body: u32,
+}
+
+impl FunctionInfo {
+    /// An equal one of its own.
+    pub fn copy(&self, alloc: Global) -> Result<FunctionInfo, NoMemory>
+        ensures { IfOk result (λ f. f ≡ self.now) }
+    {
+        Ok(FunctionInfo {
+            name: self.name.copy(alloc)?,
+            parameters: copy_names(&self.parameters, alloc)?,
+            locals: copy_texts(&self.locals, alloc)?,
+            free: copy_texts(&self.free, alloc)?,
+            has_inner: self.has_inner,
+            parent: self.parent,
+            body: self.body,
+        })
+    }
 }
 
 /// A script's tree. A node's parts have smaller numbers than the node and come in written order, so the root is the last
@@ -47,4 +66,41 @@ impl Program {
     {
         &self.nodes.as_slice()[number as usize]
     }
+
+    /// An equal program of its own.
+    pub fn copy(&self, alloc: Global) -> Result<Program, NoMemory>
+        ensures { IfOk result (λ p. p ≡ self.now) }
+    {
+        Ok(Program {
+            nodes: copy_nodes(&self.nodes, alloc)?,
+            lines: copy_numbers(&self.lines, alloc)?,
+            root: self.root,
+            functions: copy_functions(&self.functions, alloc)?,
+            handler_names: copy_texts(&self.handler_names, alloc)?,
+            is_expression: self.is_expression,
+        })
+    }
+}
+
+fn copy_nodes(nodes: &Items<Node>, alloc: Global) -> Result<Items<Node>, NoMemory>
+    ensures { IfOk result (λ all. all ≡ nodes.now) }
+{
+    let mut all = Items::new(alloc);
+    for node in nodes.as_slice() {
+        all.push(node.copy(alloc)?)?;
+    }
+    Ok(all)
+}
+
+fn copy_functions(
+    functions: &Items<FunctionInfo>,
+    alloc: Global,
+) -> Result<Items<FunctionInfo>, NoMemory>
+    ensures { IfOk result (λ all. all ≡ functions.now) }
+{
+    let mut all = Items::new(alloc);
+    for function in functions.as_slice() {
+        all.push(function.copy(alloc)?)?;
+    }
+    Ok(all)
 }

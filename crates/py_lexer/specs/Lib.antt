@@ -1,4 +1,5 @@
 pub mod Computing
+pub mod Items
 pub mod Layout
 pub mod Literals
 pub mod Order

@@ -1,0 +1,10 @@
+pub mod EndLaws
+pub mod ExactLaws
+pub mod PieceLaws
+pub mod RefusalLaws
+pub mod RuleLaws
+pub mod SetLaws
+pub mod TableIsSound
+pub mod TakenLaws
+pub mod TerminalLaws
+pub mod TextLaws

@@ -1,0 +1,12 @@
+pub mod Building
+pub mod Deriving
+pub mod Laws
+pub mod Reading
+pub mod Refusals
+pub mod Sets
+pub mod Soundness
+pub mod Table
+pub mod Terminals
+pub mod Traces
+pub mod Ways
+pub mod Writing

@@ -1,0 +1,9 @@
+pub mod ActLaws
+pub mod BuildingExamples
+pub mod DerivedLaws
+pub mod PartLaws
+pub mod PlaceLaws
+pub mod ReadLaws
+pub mod SameLaws
+pub mod SizeLaws
+pub mod StackLaws

@@ -1,0 +1,13 @@
+//! Reads a script's tokens by the grammar's table.
+#![tactic(auto)]
+
+mod builder;
+mod laws;
+mod parsing;
+mod parts;
+mod reading;
+mod table;
+mod terminals;
+
+pub use laws::trees_are_numbered;
+pub use parsing::{ParseEnd, parse, parse_expr};
