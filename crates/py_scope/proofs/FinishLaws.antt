@@ -1,5 +1,5 @@
 -- The functions of a script are finished one after another.
-use Rattle.std.proofs.Common.{◌≡◌, ◌∙◌, sym, ap, refl, ℕ, suc, ◌+◌, ◌<◌, ◌≤◌, List, [], ◌∷◌, ◌++◌, drop, length, get_or, drop-cons, add-one, append_assoc, arith}
+use Rattle.std.proofs.Common.{◌≡◌, ◌∙◌, sym, ap, refl, ℕ, ◌+◌, ◌<◌, ◌≤◌, List, [], ◌∷◌, ◌++◌, drop, length, get_or, drop-cons, add-one, append_assoc}
 use Rattle.std.proofs.lemmas.List.{at_drop_all}
 use Rattle.py_ast.specs.declared.program.FunctionInfo.{FunctionInfo}
 use Rattle.py_mentions.specs.declared.mention.Mention.{Mention}

@@ -1,5 +1,5 @@
 -- From a function outwards, one function after another.
-use Rattle.std.proofs.Common.{◌≡◌, ◌∙◌, sym, ap, refl, ℕ, zero, suc, ◌-◌, ◌+◌, ◌<◌, ◌≤◌, Bool, true, false, not, ◌&&◌, ◌==◌, List, [], ◌∷◌, length, Option, Some, None, arith, subst}
+use Rattle.std.proofs.Common.{◌≡◌, ◌∙◌, sym, ap, refl, ℕ, zero, suc, ◌-◌, ◌+◌, ◌<◌, ◌≤◌, Bool, true, false, ◌&&◌, ◌==◌, List, [], ◌∷◌, Option, Some, None, arith}
 use Rattle.std.specs.Prelude.{if◌then◌else◌}
 use Rattle.py_ast.specs.declared.program.FunctionInfo.{FunctionInfo}
 use Rattle.py_mentions.specs.declared.mention.Mention.{Mention}
@@ -8,7 +8,7 @@ use Rattle.std.proofs.lemmas.Bool.{eqb-true}
 use Rattle.py_scope.specs.Forms.{binds, is_number}
 use Rattle.py_scope.specs.Tables.{local_facts}
 use Rattle.py_scope.specs.Finished.{is_plain, binds_local}
-use Rattle.py_scope.specs.Scopes.{parent_of, outwards, around, holding_of, decided, is_kept, passing, passes}
+use Rattle.py_scope.specs.Scopes.{parent_of, outwards, holding_of, decided, is_kept, passing, passes}
 
 module _ (ms : List Mention) (fs : List FunctionInfo) (n : List ℕ) where
   nowhere : (most : ℕ) → is_kept ms (outwards most fs None) n ≡ false

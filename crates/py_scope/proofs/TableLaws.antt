@@ -1,5 +1,5 @@
 -- One more mention in a table of what is known.
-use Rattle.std.proofs.Common.{◌≡◌, ◌∙◌, sym, ap, refl, ℕ, Bool, true, false, not, ◌&&◌, ◌||◌, ◌==◌, cond, min, nat_lt, List, [], ◌∷◌, ◌++◌, take, length, get_or, ◌<◌, ◌+◌, Option, Some, None, Bor, subst, arith}
+use Rattle.std.proofs.Common.{◌≡◌, ◌∙◌, sym, ap, refl, ℕ, Bool, true, false, not, ◌&&◌, ◌||◌, ◌==◌, cond, min, nat_lt, List, [], take, length, get_or, ◌<◌, ◌+◌, Option, Some, None, Bor, subst, arith}
 use Rattle.std.specs.Prelude.{if◌then◌else◌}
 use Rattle.std.specs.List.{list_any}
 use Rattle.std.specs.Option.{unwrap_or}
@@ -10,7 +10,6 @@ use Rattle.std.specs.Cmp.Lexicographic.{bytes_decides}
 use Rattle.std.proofs.lemmas.Bool.{eqb-true}
 use Rattle.std.proofs.lemmas.Grind.{common_steps}
 use Rattle.std.proofs.lemmas.List.Folds.{list_any_more}
-use Rattle.py_mentions.specs.declared.mention.Form.{Form}
 use Rattle.py_mentions.specs.declared.mention.Mention.{Mention}
 use Rattle.py_scope.specs.declared.locals.LocalFacts.{LocalFacts}
 use Rattle.py_scope.specs.declared.names.NameFacts.{NameFacts}

@@ -1,5 +1,5 @@
 -- The worst of what one mention after another breaks.
-use Rattle.std.proofs.Common.{◌≡◌, ◌∙◌, sym, ap, refl, ℕ, List, [], ◌∷◌, ◌++◌, take, drop, length, get_or, ◌<◌, ◌+◌, Option, Some, None, drop-cons, add-one, arith}
+use Rattle.std.proofs.Common.{◌≡◌, ◌∙◌, sym, ap, refl, ℕ, List, [], ◌∷◌, ◌++◌, take, drop, length, get_or, ◌<◌, ◌+◌, Option, drop-cons, add-one}
 use Rattle.std.proofs.lemmas.Grind.{take_at_read}
 use Rattle.rp_base.specs.declared.rules.Refused.{Refused}
 use Rattle.py_ast.specs.declared.program.FunctionInfo.{FunctionInfo}

@@ -1,11 +1,11 @@
 -- What the mentions of a script say of a name in a function, of a name, and of a class.
-use Rattle.std.specs.Prelude.{◌≡◌, ℕ, Bool, true, false, not, ◌&&◌, ◌||◌, List, Option, Some, None}
+use Rattle.std.specs.Prelude.{ℕ, Bool, true, not, ◌&&◌, List, Option, Some, None}
 use Rattle.std.specs.List.{list_any}
 use Rattle.std.specs.Str.{bytes_eq}
 use Rattle.py_mentions.specs.declared.mention.Form.{Form}
 use Rattle.py_mentions.specs.declared.mention.Mention.{Mention}
 use Rattle.py_scope.specs.Words.{is_operator}
-use Rattle.py_scope.specs.Forms.{is_parameter, binds, is_caught, is_global, is_nonlocal, uses, is_class, is_base, is_method, is_number, is_below}
+use Rattle.py_scope.specs.Forms.{binds, is_caught, is_global, is_class, is_base, is_method, is_number, is_below}
 
 -- ---- a name in a function
 

@@ -1,5 +1,5 @@
 -- What the functions of a script keep: their locals, and the names that they take from around.
-use Rattle.std.specs.Prelude.{ℕ, suc, Bool, true, false, ◌&&◌, ◌||◌, ◌==◌, not, List, [], ◌∷◌, ◌++◌, ◌+◌, map, Option, Some, None, if◌then◌else◌}
+use Rattle.std.specs.Prelude.{ℕ, suc, Bool, ◌&&◌, ◌||◌, ◌==◌, not, List, [], ◌∷◌, ◌++◌, map}
 use Rattle.std.specs.List.{list_any}
 use Rattle.py_ast.specs.declared.program.FunctionInfo.{FunctionInfo}
 use Rattle.py_ast.specs.declared.program.Program.{Program}

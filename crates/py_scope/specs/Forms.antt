@@ -1,5 +1,5 @@
 -- What each form of a mention does.
-use Rattle.std.specs.Prelude.{ℕ, Bool, true, false, ◌&&◌, ◌||◌, ◌==◌, not, nat_lt, List, Option, Some, None}
+use Rattle.std.specs.Prelude.{ℕ, Bool, true, false, ◌||◌, ◌==◌, nat_lt, Option, Some, None}
 use Rattle.py_mentions.specs.declared.mention.Form.{Form}
 use Rattle.py_mentions.specs.declared.mention.Form.TheVariants as form
 

@@ -1,5 +1,5 @@
 -- The tables in which the code keeps what mentions say.
-use Rattle.std.specs.Prelude.{◌≡◌, ℕ, Bool, true, false, ◌&&◌, ◌||◌, ◌==◌, not, min, List, [], ◌∷◌, Option, Some, None, if◌then◌else◌}
+use Rattle.std.specs.Prelude.{◌≡◌, ℕ, Bool, false, ◌&&◌, ◌||◌, ◌==◌, not, min, List, Option, Some, None, if◌then◌else◌}
 use Rattle.std.specs.Str.{bytes_eq}
 use Rattle.std.specs.Option.{unwrap_or}
 use Rattle.std.specs.HashMap.{HashMap, get_by}
@@ -12,7 +12,7 @@ use Rattle.py_scope.specs.declared.classes.ClassFacts.{ClassFacts}
 use Rattle.py_scope.specs.declared.facts.Facts.{Facts}
 use Rattle.py_scope.specs.Words.{is_operator}
 use Rattle.py_scope.specs.Forms.{is_parameter, binds, is_caught, is_global, is_nonlocal, uses, is_class, is_base, is_method, is_number, is_below}
-use Rattle.py_scope.specs.Facts.{mentioned, occurs, is_rebound, earlier_class, has_base, has_operator, in_script}
+use Rattle.py_scope.specs.Facts.{mentioned, occurs, is_rebound, earlier_class, has_base, has_operator}
 
 -- ---- names in functions
 

@@ -1,4 +1,4 @@
-use Rattle.std.proofs.Common.{◌≡◌, take, map}
+use Rattle.std.proofs.Common.{◌≡◌, take}
 use Rattle.py_scope.proofs.finishing.copy_names.Given as goal
 
 abbrev pub invariant-loop-name : goal.invariant-loop-name

@@ -1,4 +1,4 @@
-use Rattle.std.proofs.Common.{◌≡◌, ◌∙◌, ◌||◌, ap, sym, ℕ, List, Bool, take, length, ◌<◌, ◌==◌, get_or, arith}
+use Rattle.std.proofs.Common.{◌∙◌, ◌||◌, ap, sym, ℕ, List, Bool, take, length, ◌<◌, ◌==◌, arith}
 use Rattle.std.specs.List.{list_any}
 use Rattle.std.proofs.lemmas.List.{nil_from_length}
 use Rattle.std.proofs.lemmas.List.Folds.{list_any_more}

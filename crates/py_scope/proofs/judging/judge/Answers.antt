@@ -1,5 +1,4 @@
-use Rattle.std.proofs.Common.{◌≡◌, ◌∙◌, ap, sym, Some, None, List, Option}
-use Rattle.py_ast.specs.declared.program.FunctionInfo.{FunctionInfo}
+use Rattle.std.proofs.Common.{◌≡◌, ◌∙◌, ap, sym, Some, None, List}
 use Rattle.py_mentions.specs.declared.mention.Mention.{Mention}
 use Rattle.py_mentions.specs.Walks.{broken_in, mentions_in}
 use Rattle.py_mentions.specs.Worst.{worst, worst_with, worst_more}

@@ -1,4 +1,4 @@
-use Rattle.std.proofs.Common.{◌∙◌, ap, sym, take, length, ◌<◌, arith}
+use Rattle.std.proofs.Common.{◌∙◌, ap, sym, length, ◌<◌, arith}
 use Rattle.py_scope.specs.Tables.{class_noted}
 use Rattle.py_scope.proofs.TableLaws.{class_start, class_more}
 use Rattle.py_scope.proofs.classes.ClassTable.of.Goals as goal

@@ -1,4 +1,4 @@
-use Rattle.std.proofs.Common.{◌≡◌, ◌∙◌, ap, sym, subst, List, ℕ}
+use Rattle.std.proofs.Common.{◌≡◌, ◌∙◌, ap, subst, List, ℕ}
 use Rattle.py_scope.specs.Forms.{looks_up}
 use Rattle.py_scope.specs.Finished.{takes_through, is_among}
 use Rattle.py_scope.specs.Names.{Added}

@@ -1,4 +1,4 @@
-use Rattle.std.proofs.Common.{◌≡◌, ◌==◌, ◌∙◌, ap, sym, subst, List, ℕ, Some}
+use Rattle.std.proofs.Common.{◌≡◌, ◌==◌, ◌∙◌, ap, subst, List, ℕ, Some}
 use Rattle.py_scope.specs.Tables.{local_facts}
 use Rattle.py_scope.specs.Finished.{binds_local, is_plain}
 use Rattle.py_scope.specs.Names.{Added}

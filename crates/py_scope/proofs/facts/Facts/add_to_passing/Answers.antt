@@ -1,4 +1,4 @@
-use Rattle.std.proofs.Common.{◌≡◌, ◌==◌, ◌∙◌, ap, sym, refl, List, [], ◌∷◌, ℕ, ◌-◌, ◌+◌, ◌<◌, ◌≤◌, length, slice_get, option_map, Option, Some, None, Bool, arith}
+use Rattle.std.proofs.Common.{◌≡◌, ◌==◌, ◌∙◌, ap, sym, refl, List, [], ◌∷◌, ℕ, ◌-◌, ◌+◌, ◌<◌, ◌≤◌, length, slice_get, option_map, Option, Some, None, arith}
 use Rattle.std.specs.Prelude.{if◌then◌else◌}
 use Rattle.py_scope.specs.Finished.{is_among}
 use Rattle.py_scope.specs.Names.{added_if}

@@ -1,4 +1,4 @@
-use Rattle.std.proofs.Common.{◌≡◌, ◌∙◌, ◌++◌, ◌∷◌, [], ap, sym, refl, length, get_or, ◌<◌, ◌≤◌, arith}
+use Rattle.std.proofs.Common.{◌∙◌, ◌++◌, ap, sym, length, get_or, ◌<◌, ◌≤◌, arith}
 use Rattle.std.proofs.lemmas.Option.{slice_get-get_or}
 use Rattle.py_scope.specs.Finished.{finished_from}
 use Rattle.py_scope.proofs.FinishLaws.{finish_more, finish_end}

@@ -1,6 +1,6 @@
-use Rattle.std.proofs.Common.{◌≡◌, ◌∙◌, ◌++◌, ◌<◌, ap, sym, refl, length, slice_get, get_or, Some, arith}
+use Rattle.std.proofs.Common.{◌≡◌, ◌∙◌, ◌++◌, ◌<◌, sym, refl, length, slice_get, get_or, Some, arith}
 use Rattle.std.proofs.lemmas.Option.{slice_get_read}
-use Rattle.py_scope.specs.Finished.{parameter_names, other_locals, free_names, has_inner}
+use Rattle.py_scope.specs.Finished.{parameter_names, has_inner}
 use Rattle.py_scope.proofs.facts.Facts.finished_at.Goals as goal
 
 pub returns : goal.returns

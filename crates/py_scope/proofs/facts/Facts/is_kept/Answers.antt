@@ -1,6 +1,6 @@
-use Rattle.std.proofs.Common.{◌≡◌, ◌∙◌, sym, ap, ◌-◌, ◌+◌, ◌<◌, ◌≤◌, length, Option, Some, None, arith}
+use Rattle.std.proofs.Common.{◌≡◌, ◌∙◌, sym, ap, ◌-◌, ◌+◌, ◌<◌, ◌≤◌, length, Some, None, arith}
 use Rattle.py_scope.specs.declared.holding.Holding.TheVariants as holding
-use Rattle.py_scope.specs.Scopes.{decided, is_kept, outwards, parent_of}
+use Rattle.py_scope.specs.Scopes.{is_kept, outwards}
 use Rattle.py_scope.proofs.ScopeLaws.{kept_none, kept_end, kept_step, kept_start}
 use Rattle.py_scope.proofs.facts.Facts.is_kept.Goals as goal
 

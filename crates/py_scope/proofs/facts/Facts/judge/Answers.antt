@@ -1,7 +1,5 @@
-use Rattle.std.proofs.Common.{◌≡◌, ◌∙◌, ap, Bool, Option}
-use Rattle.rp_base.specs.declared.rules.Rule.{Rule}
+use Rattle.std.proofs.Common.{◌∙◌, ap}
 use Rattle.rp_base.specs.declared.rules.Rule.TheVariants as rule
-use Rattle.rp_base.specs.declared.rules.Refused.{Refused}
 use Rattle.py_mentions.specs.Worst.{worst_with}
 use Rattle.py_scope.specs.Rules.{breaks, refused_if, misnames, raises_other, is_too_private, leaks, misderives, misdeclares}
 use Rattle.py_scope.proofs.WorstLaws.{six_steps}

@@ -1,4 +1,4 @@
-use Rattle.std.proofs.Common.{◌≡◌, ◌∙◌, ap, sym, Some, cond, ◌&&◌, ◌==◌, List, ℕ}
+use Rattle.std.proofs.Common.{◌∙◌, ap, Some, cond, ◌&&◌, ◌==◌, List, ℕ}
 use Rattle.std.specs.HashMap.{get_by}
 use Rattle.std.specs.Str.{bytes_eq}
 use Rattle.py_scope.specs.Tables.{local_with, local_in, of_local}

@@ -1,4 +1,4 @@
-use Rattle.std.proofs.Common.{◌∙◌, ap, sym, take, length, ◌<◌, arith}
+use Rattle.std.proofs.Common.{◌∙◌, ap, sym, length, ◌<◌, arith}
 use Rattle.py_scope.specs.Tables.{local_noted}
 use Rattle.py_scope.proofs.TableLaws.{local_start, local_more}
 use Rattle.py_scope.proofs.locals.LocalTable.of.Goals as goal

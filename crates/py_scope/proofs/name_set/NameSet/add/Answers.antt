@@ -1,4 +1,4 @@
-use Rattle.std.proofs.Common.{◌≡◌, ◌∙◌, ap, map}
+use Rattle.std.proofs.Common.{◌∙◌, ap, map}
 use Rattle.py_scope.specs.Names.{with_name}
 use Rattle.py_scope.proofs.SetLaws.{added_key}
 use Rattle.py_scope.proofs.name_set.NameSet.add.Goals as goal

@@ -1,5 +1,4 @@
-use Rattle.std.proofs.Common.{◌≡◌, ◌∙◌, ap, sym, take, length, ◌<◌, ◌+◌, arith, subst}
-use Rattle.py_scope.specs.Facts.{in_script}
+use Rattle.std.proofs.Common.{sym, take, length, ◌<◌, ◌+◌, arith, subst}
 use Rattle.py_scope.specs.Tables.{name_in, IsOfName}
 use Rattle.py_scope.proofs.TableLaws.{name_start, name_more}
 use Rattle.py_scope.proofs.names.NameTable.of.Goals as goal
