@@ -1,3 +1,5 @@
+pub mod AcceptLaws
+mod Examples
 pub mod FinishLaws
 pub mod FirstLaws
 pub mod ScopeLaws
