@@ -62,7 +62,12 @@ fn accept_text(alloc: Global, start: Start, text: &str) -> Result<Program, Accep
     judge(alloc, tree)
 }
 
-fn parse_from(alloc: Global, start: Start, tokens: &[Token], text: &str) -> Result<Program, ParseEnd>
+fn parse_from(
+    alloc: Global,
+    start: Start,
+    tokens: &[Token],
+    text: &str,
+) -> Result<Program, ParseEnd>
     requires { length text.now ≤ 1048576 }
     ensures { Parsed start (lexemes text.now tokens.now) result }
 {

@@ -22,4 +22,4 @@ mod words;
 pub use accepting::{accept, accept_expr};
 pub use ending::AcceptEnd;
 pub use judging::judge;
-pub use laws::one_is_first;
+pub use laws::{a_text_has_one_judgement, one_is_first};
