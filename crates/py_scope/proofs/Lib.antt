@@ -1,5 +1,8 @@
+pub mod AcceptLaws
+mod Examples
 pub mod FinishLaws
 pub mod FirstLaws
+pub mod OneLaws
 pub mod ScopeLaws
 pub mod SetLaws
 pub mod TableLaws

@@ -1,3 +1,6 @@
+pub mod Accepting
+pub mod Computing
+pub mod Ends
 pub mod Facts
 pub mod Finished
 pub mod Forms

@@ -1,5 +1,7 @@
 ghost use Rattle.std.specs.Prelude.{◌≡◌};
 
+use py_lexer::LexEnd;
+use py_parser::ParseEnd;
 use rp_base::{NoMemory, Refused};
 
 /// Why a text is not accepted.
@@ -17,5 +19,31 @@ impl From<NoMemory> for AcceptEnd {
 
     fn from(_error: NoMemory) -> AcceptEnd {
         AcceptEnd::NoMemory
+    }
+}
+
+impl From<LexEnd> for AcceptEnd {
+    ghost use Rattle.py_scope.specs.Ends.{after_tokens};
+
+    ghost from_gives = { λ l e. e ≡ after_tokens l };
+
+    fn from(end: LexEnd) -> AcceptEnd {
+        match end {
+            LexEnd::Refused(refused) => AcceptEnd::Refused(refused),
+            LexEnd::NoMemory => AcceptEnd::NoMemory,
+        }
+    }
+}
+
+impl From<ParseEnd> for AcceptEnd {
+    ghost use Rattle.py_scope.specs.Ends.{after_parsing};
+
+    ghost from_gives = { λ p e. e ≡ after_parsing p };
+
+    fn from(end: ParseEnd) -> AcceptEnd {
+        match end {
+            ParseEnd::Refused(refused) => AcceptEnd::Refused(refused),
+            ParseEnd::NoMemory => AcceptEnd::NoMemory,
+        }
     }
 }

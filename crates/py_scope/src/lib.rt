@@ -1,6 +1,7 @@
 //! The rules on names, and the names that each function keeps.
 #![tactic(auto)]
 
+mod accepting;
 mod classes;
 mod ending;
 mod facts;
@@ -18,6 +19,7 @@ mod scopes;
 mod tests;
 mod words;
 
+pub use accepting::{accept, accept_expr};
 pub use ending::AcceptEnd;
 pub use judging::judge;
-pub use laws::one_is_first;
+pub use laws::{a_text_has_one_judgement, one_is_first};
