@@ -1,5 +1,5 @@
 -- Texts, by their tokens, and the place of the first token that fits nowhere. Guards are taken to hold.
-use Rattle.std.proofs.Common.{◌≡◌, refl, ℕ, Bool, true, List, [], ◌∷◌, ◌++◌, map, Option, Some, None}
+use Rattle.std.proofs.Common.{◌≡◌, refl, ℕ, true, List, [], ◌∷◌, ◌++◌, map, Option, Some, None}
 use Rattle.py_grammar.specs.declared.act.Act.TheVariants as a
 use Rattle.py_grammar.specs.declared.symbol.Limits.{Limits}
 use Rattle.py_grammar.specs.declared.symbol.Start.{Start}

@@ -1,4 +1,5 @@
 pub mod ActLaws
+pub mod AnswerLaws
 pub mod BuildingExamples
 pub mod DerivedLaws
 pub mod PartLaws

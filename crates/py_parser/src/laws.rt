@@ -1,4 +1,8 @@
-ghost use Rattle.std.specs.Prelude.{Bool, List};
+ghost use Rattle.std.specs.Prelude.{◌≡◌, Bool, List};
+ghost use Rattle.py_ast.specs.declared.program.Program.{Program};
+ghost use Rattle.py_grammar.specs.declared.symbol.Start.{Start};
+ghost use Rattle.rp_base.specs.declared.rules.Refused.{Refused};
+ghost use Rattle.py_parser.specs.Parsing.{HasTree, IsFirstMisfit};
 ghost use Rattle.py_ast.specs.Parts.{IsNumbered};
 ghost use Rattle.py_grammar.specs.declared.symbol.Limits.{Limits};
 ghost use Rattle.py_grammar.specs.declared.symbol.Symbol.{Symbol};
@@ -13,3 +17,10 @@ pub fn trees_are_numbered()
     ensures { (limits : Limits) (symbols : List Symbol) (text : List Lexeme) (out : Building) (is_expression : Bool)
         → Derives Building builder limits symbols begun text out → IsNumbered (program_of is_expression out) }
 {}
+
+/// A text has no two trees, and none if a token of it is refused.
+pub fn a_text_has_one_answer()
+    ensures one_tree { (start : Start) (text : List Lexeme) (one two : Program) → HasTree start text one → HasTree start text two → one ≡ two }
+    ensures not_both { (start : Start) (text : List Lexeme) (program : Program) (refused : Refused) → HasTree start text program → IsFirstMisfit start text refused → ⊥ }
+{
+}

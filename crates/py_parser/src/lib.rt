@@ -11,5 +11,5 @@ mod terminals;
 #[cfg(test)]
 mod tests;
 
-pub use laws::trees_are_numbered;
+pub use laws::{a_text_has_one_answer, trees_are_numbered};
 pub use parsing::{ParseEnd, parse, parse_expr};
