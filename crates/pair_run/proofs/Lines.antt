@@ -12,7 +12,7 @@ use Rattle.std.specs.Int.{is_in_range}
 use Rattle.std.specs.Str.{bytes_eq}
 use Rattle.pair_run.proofs.Numbers.{number_text_of, number_text_reads}
 use Rattle.pair_run.specs.declared.scripts.Binding.{Binding}
-use Rattle.pair_run.specs.Scripts.{IsLetter, IsNumber, IsBinding, question_line, binding_line, quoted_letter, read_letter, read_binding, bound, number_text, lines_of, onto_first, bytes_in}
+use Rattle.pair_run.specs.Scripts.{IsLetter, IsNumber, IsBinding, question_line, binding_line, quoted_letter, read_letter, read_binding, bound, number_text, lines_of, onto_first}
 
 is_letter : (c : ℕ) → is_in_range 97 122 c ≡ true → IsLetter c
 is_letter c h = let parts = and_parts (nat_le 97 c) (nat_le c 122) h in (leb-true 97 c parts.0, leb-true c 122 parts.1)
@@ -132,16 +132,3 @@ binds_nothing line h b fits e = let read : read_binding line ≡ Some b = ap rea
 -- a line of which nothing is read asks for nothing
 pub asks_nothing : (line : List ℕ) → None ≡ read_letter line → (letter : ℕ) → IsLetter letter → line ≡ question_line letter → ⊥
 asks_nothing line h letter fits e = let read : read_letter line ≡ Some letter = ap read_letter e ∙ read_letter-question_line letter fits in cc
-
--- the bytes of lines, with one line more
-bytes_push : (lines : List (List ℕ)) (line : List ℕ) → bytes_in (lines ++ line ∷ []) ≡ bytes_in lines + (length line + 1)
-bytes_push [] line = omega arith
-bytes_push (l ∷ lines) line = omega (arith, bytes_push lines line)
-
-pub bytes_more : {X : Type 0} (f : X → List ℕ) (xs : List X) (x : X) → bytes_in (map f (xs ++ x ∷ [])) ≡ bytes_in (map f xs) + (length (f x) + 1)
-bytes_more f xs x = ap bytes_in (map-append f xs (x ∷ [])) ∙ bytes_push (map f xs) (f x)
-
--- how far the lines so far reach, where a line feed ended each
-pub reaches : (text rest others line bytes more : ℕ) → (0 < rest → bytes + rest ≡ text) → 0 < rest → (rest ≡ line + 1 + others) ⊎ ((others ≡ 0) × (rest ≡ line)) → more ≡ bytes + (line + 1) → 0 < others → more + others ≡ text
-reaches text rest others line bytes more h some (inl e) k left = omega (arith, h some)
-reaches text rest others line bytes more h some (inr e) k left = absurd (omega (arith, e.0))

@@ -35,52 +35,35 @@ binding_line b = b.letter ∷ codes " = " ++ signed_decimal b.number
 abbrev pub IsBinding : Binding → Type 0
 IsBinding b = IsLetter b.letter × IsNumber b.number
 
--- a text of at most 1 MiB is read
-abbrev pub longest_text : ℕ
-longest_text = 1048576
-
--- the bytes of lines, each with its line feed
-abbrev pub bytes_in : List (List ℕ) → ℕ
-bytes_in [] = 0
-bytes_in (line ∷ lines) = length line + 1 + bytes_in lines
-
--- behind these lines, the first byte past the longest text stands in this one
-abbrev pub IsPast : List ℕ → List (List ℕ) → List ℕ → Type 0
-IsPast text before line = (longest_text < length text) × (longest_text ≤ bytes_in before + length line)
-
 -- the text of A's script that asks for these letters in turn
 pub record AsksFor (text : List ℕ) (letters : List ℕ) : Type 0 where
   pub spelled : lines_of text ≡ map question_line letters
   pub lower_case : All IsLetter letters
-  pub short : length text ≤ longest_text
 
 -- the text of B's script that binds these in turn
 pub record Binds (text : List ℕ) (bindings : List Binding) : Type 0 where
   pub spelled : lines_of text ≡ map binding_line bindings
   pub in_range : All IsBinding bindings
-  pub short : length text ≤ longest_text
 
--- the lines of A before this one ask for letters, and it doesn't, or the text is too long in it
+-- the lines of A before this one ask for letters, and it doesn't
 pub record IsFirstOtherQuestion (text : List ℕ) (line : ℕ) : Type 0 where
   pub before : List ℕ
   pub other : List ℕ
   pub after : List (List ℕ)
   pub lines : lines_of text ≡ map question_line before ++ other ∷ after
   pub lower_case : All IsLetter before
-  pub short : bytes_in (map question_line before) ≤ longest_text
   pub place : line ≡ length before + 1
-  pub refused : IsPast text (map question_line before) other ⊎ ((letter : ℕ) → IsLetter letter → other ≡ question_line letter → ⊥)
+  pub refused : (letter : ℕ) → IsLetter letter → other ≡ question_line letter → ⊥
 
--- the lines of B before this one bind letters, and it doesn't, or the text is too long in it
+-- the lines of B before this one bind letters, and it doesn't
 pub record IsFirstOtherBinding (text : List ℕ) (line : ℕ) : Type 0 where
   pub before : List Binding
   pub other : List ℕ
   pub after : List (List ℕ)
   pub lines : lines_of text ≡ map binding_line before ++ other ∷ after
   pub in_range : All IsBinding before
-  pub short : bytes_in (map binding_line before) ≤ longest_text
   pub place : line ≡ length before + 1
-  pub refused : IsPast text (map binding_line before) other ⊎ ((b : Binding) → IsBinding b → other ≡ binding_line b → ⊥)
+  pub refused : (b : Binding) → IsBinding b → other ≡ binding_line b → ⊥
 
 -- the number that the last line of B with this letter gives
 abbrev pub number_of : List Binding → ℕ → Option ℤ

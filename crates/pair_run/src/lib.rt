@@ -13,4 +13,4 @@ mod tests;
 
 pub use ends::{PairEnd, RunEnd};
 pub use run::{PairScripts, run_pair};
-pub use scripts::{Binding, LONGEST_TEXT, ScriptEnd, bindings, questions};
+pub use scripts::{Binding, ScriptEnd, bindings, questions};

@@ -13,9 +13,6 @@ pub struct Binding {
     pub number: i128,
 }
 
-/// A script has at most so many bytes: 1 MiB.
-pub const LONGEST_TEXT: usize = 1_048_576;
-
 /// Why a script is not taken: its first line that has a form that is not built yet, counted from 1.
 #[derive(Clone, Copy, Debug, PartialEq, Eq)]
 pub enum ScriptEnd {
@@ -52,9 +49,6 @@ pub fn questions(alloc: Global, text: &[u8]) -> Result<Vec<u8>, ScriptEnd>
     let mut rest = text;
     'lines: while !rest.is_empty() {
         let (line, others) = split_line(rest);
-        if text.len() - others.len() > LONGEST_TEXT {
-            return Err(ScriptEnd::NotYet(letters.len() + 1));
-        }
         let Some(letter) = letter_of(line) else {
             return Err(ScriptEnd::NotYet(letters.len() + 1));
         };
@@ -73,9 +67,6 @@ pub fn bindings(alloc: Global, text: &[u8]) -> Result<Vec<Binding>, ScriptEnd>
     let mut rest = text;
     'lines: while !rest.is_empty() {
         let (line, others) = split_line(rest);
-        if text.len() - others.len() > LONGEST_TEXT {
-            return Err(ScriptEnd::NotYet(bindings.len() + 1));
-        }
         let Some(binding) = binding_of(line) else {
             return Err(ScriptEnd::NotYet(bindings.len() + 1));
         };
@@ -136,7 +127,6 @@ fn split_line(text: &[u8]) -> (&[u8], &[u8])
     requires { 0 < length text.now }
     ensures lines { lines_of text.now ≡ result.0.now ∷ lines_of result.1.now }
     ensures shorter { length result.1.now < length text.now }
-    ensures sizes { (length text.now ≡ length result.0.now + 1 + length result.1.now) ⊎ ((length result.1.now ≡ 0) × (length text.now ≡ length result.0.now)) }
 {
     match line_end(text) {
         Some(end) => (&text[..end], &text[end + 1..]),

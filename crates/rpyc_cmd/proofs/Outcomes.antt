@@ -1,6 +1,7 @@
 -- From what the parts of the program say to what a whole run does.
 use Rattle.std.proofs.Common.{◌≡◌, ℕ, List, Option, sym, subst, inl, inr}
 use Rattle.wire_io.specs.Devices.{Rose, Wrote, IsPart}
+use Rattle.rp_base.specs.declared.rules.Rule.{Rule}
 use Rattle.pair_run.specs.declared.scripts.Binding.{Binding}
 use Rattle.rpyc_cmd.specs.declared.decide.Decided.{Decided}
 use Rattle.rpyc_cmd.specs.declared.decide.Stop.{Stop}
@@ -16,13 +17,14 @@ pub if_refused : (s : Stop) (P Q : Status → List ℕ → Type 0) → ((decided
 if_refused (stop.Refused d) P Q f h = f d.status d.text h
 if_refused stop.NoMemory P Q f h = tt
 
-pub refused_by : (s : Stop) (C D : List ℕ → ℕ → Type 0) → ((name : List ℕ) (line : ℕ) → C name line → D name line) → IfRefused (RefusesScript C) s → IfRefused (RefusesScript D) s
-refused_by s C D f = if_refused s (RefusesScript C) (RefusesScript D) (λ decided text h. (h.0, (h.1.0, h.1.1, f h.1.0 h.1.1 h.1.2, h.1.3)))
+pub refused_by : (s : Stop) (C D : List ℕ → ℕ → Rule → Type 0) → ((name : List ℕ) (line : ℕ) (rule : Rule) → C name line rule → D name line rule) → IfRefused (RefusesScript C) s → IfRefused (RefusesScript D) s
+refused_by s C D f = if_refused s (RefusesScript C) (RefusesScript D) (λ decided text h. (h.0, (h.1.0, h.1.1, h.1.2, f h.1.0 h.1.1 h.1.2 h.1.3, h.1.4)))
 
--- a refusal at a line, with its cause
-pub refused_at : (s : Stop) (C : List ℕ → ℕ → Type 0) (name : List ℕ) (line : ℕ) → C name line → IfRefused (λ decided text. (decided ≡ status.Script) × (text ≡ script_line name line)) s → IfRefused (RefusesScript C) s
-refused_at s C name line cause =
-    if_refused s (λ decided text. (decided ≡ status.Script) × (text ≡ script_line name line)) (RefusesScript C) (λ decided text h. (h.0, (name, line, cause, h.1)))
+-- a refusal at a line by a rule, with its cause
+pub refused_at_line : (s : Stop) (C : List ℕ → ℕ → Rule → Type 0) (name : List ℕ) (line : ℕ) (rule : Rule) → C name line rule
+    → IfRefused (λ decided text. (decided ≡ status.Script) × (text ≡ script_line name line rule)) s → IfRefused (RefusesScript C) s
+refused_at_line s C name line rule cause =
+    if_refused s (λ decided text. (decided ≡ status.Script) × (text ≡ script_line name line rule)) (RefusesScript C) (λ decided text h. (h.0, (name, line, rule, cause, h.1)))
 
 -- both files were read
 abbrev pub scripts_of : (held held_later : Held) (name_a name_b bytes_a text_a bytes_b text_b : List ℕ) → Holds held name_a bytes_a → text_a ≡ bytes_a
@@ -51,7 +53,7 @@ script_gives : (name_a name_b : List ℕ) (old new : Outside) (s : Scripts name_
     → RefusesScript (IsRefusal name_a s.text_a name_b s.text_b) decided text → PairGives decided name_a name_b old new text
 script_gives name_a name_b old new s same decided text h =
     let F : Status → Type 0 = λ k. PairGives k name_a name_b old new text in
-    subst F (sym h.0) (s, h.1.0, h.1.1, h.1.2, h.1.3, same)
+    subst F (sym h.0) (s, h.1.0, h.1.1, h.1.2, h.1.3, h.1.4, same)
 
 pub scripts_refused : (stopped : Stop) (name_a name_b : List ℕ) (old new : Outside) (s : Scripts name_a name_b old.held) → Unbegun old new
     → IfRefused (RefusesScript (IsRefusal name_a s.text_a name_b s.text_b)) stopped → IfRefused (λ decided text. PairGives decided name_a name_b old new text) stopped

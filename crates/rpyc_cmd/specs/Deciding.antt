@@ -1,6 +1,7 @@
 -- What is known of a stop before a run, and of the writing of a text.
 use Rattle.std.specs.Prelude.{◌≡◌, ℕ, List, Option, ◌⊎◌}
 use Rattle.wire_io.specs.Devices.{Rose, Wrote, IsPart}
+use Rattle.rp_base.specs.declared.rules.Rule.{Rule}
 use Rattle.rpyc_cmd.specs.declared.decide.Stop.{Stop}
 use Rattle.rpyc_cmd.specs.declared.decide.Stop.TheVariants as stop
 use Rattle.rpyc_cmd.specs.declared.status.Status.{Status}
@@ -17,9 +18,9 @@ abbrev pub IfNoMemory : Type 0 → Stop → Type 0
 IfNoMemory P (stop.Refused d) = Unit {0}
 IfNoMemory P stop.NoMemory = P
 
--- the refusal of a script, of which this name and this line are the cause
-abbrev pub RefusesScript : (List ℕ → ℕ → Type 0) → Status → List ℕ → Type 0
-RefusesScript Cause decided text = (decided ≡ status.Script) × ((name : List ℕ) × (line : ℕ) × Cause name line × (text ≡ script_line name line))
+-- the refusal of a script, of which this name, this line and this rule are the cause
+abbrev pub RefusesScript : (List ℕ → ℕ → Rule → Type 0) → Status → List ℕ → Type 0
+RefusesScript Cause decided text = (decided ≡ status.Script) × ((name : List ℕ) × (line : ℕ) × (rule : Rule) × Cause name line rule × (text ≡ script_line name line rule))
 
 -- the status once the output failed
 abbrev pub after_fault : Status → Status

@@ -2,6 +2,11 @@
 use Rattle.std.specs.Prelude.{◌≡◌, ℕ, List, [], Option, Some, None, ◌⊎◌, All, IsSome, take}
 use Rattle.wire_io.specs.Devices.{Rose, Wrote, IsPart}
 use Rattle.wire_io.specs.declared.wire.Over.{Over}
+use Rattle.py_ast.specs.declared.program.Program.{Program}
+use Rattle.py_grammar.specs.declared.symbol.Start.TheVariants as starts
+use Rattle.py_scope.specs.Accepting.{Accepted, RefusedAt}
+use Rattle.rp_base.specs.declared.rules.Rule.{Rule}
+use Rattle.rp_base.specs.declared.rules.Rule.TheVariants as rules
 use Rattle.pair_run.specs.declared.ends.RunEnd.TheVariants as run_end
 use Rattle.pair_run.specs.declared.scripts.Binding.{Binding}
 use Rattle.pair_run.specs.Running.{Wires, wires, IsUnrun, IsWholeRun, IsPartRun, IsCutRun, HasFailed}
@@ -48,18 +53,41 @@ pub record Scripts (name_a name_b : List ℕ) (held : Held) : Type 0 where
   pub read_a : Holds held name_a text_a
   pub read_b : Holds held name_b text_b
 
--- A's script asks for these letters, B's binds these, and each letter is bound
+-- a text of the language, with its program
+pub record IsScript (text : List ℕ) : Type 0 where
+  pub program : Program
+  pub accepted : Accepted starts.Script text program
+
+-- A's text is a script that asks for these letters; B's is one that binds these
+abbrev pub Asks : List ℕ → List ℕ → Type 0
+Asks text letters = IsScript text × AsksFor text letters
+
+abbrev pub BindsAll : List ℕ → List Binding → Type 0
+BindsAll text bindings = IsScript text × Binds text bindings
+
+-- both texts are scripts, A's asks for these letters, B's binds these, and each letter is bound
 pub record AreAccepted (text_a text_b : List ℕ) (letters : List ℕ) (bindings : List Binding) : Type 0 where
-  pub asks : AsksFor text_a letters
-  pub binds : Binds text_b bindings
+  pub asks : Asks text_a letters
+  pub binds : BindsAll text_b bindings
   pub bound : All (λ letter. IsSome (number_of bindings letter)) letters
 
--- The first refusal: of A's lines, then of B's, then of a letter of A that B does not bind.
-abbrev pub IsRefusal : List ℕ → List ℕ → List ℕ → List ℕ → List ℕ → ℕ → Type 0
-IsRefusal name_a text_a name_b text_b name line =
-    ((name ≡ name_a) × IsFirstOtherQuestion text_a line)
-    ⊎ ((letters : List ℕ) × AsksFor text_a letters × (name ≡ name_b) × IsFirstOtherBinding text_b line)
-    ⊎ ((letters : List ℕ) × (bindings : List Binding) × AsksFor text_a letters × Binds text_b bindings × (name ≡ name_a) × IsFirstUnbound bindings letters line)
+-- a text that the language refuses at this line by this rule
+pub record IsNoScript (text : List ℕ) (line : ℕ) (rule : Rule) : Type 0 where
+  pub refused : RefusedAt starts.Script text (record { line = line; rule = rule })
+
+-- The refusal of one text: it is no script, by this rule at this line; or it is one, and this line is the first that is
+-- outside the forms of this stage.
+abbrev pub IsTextRefusal : (List ℕ → ℕ → Type 0) → List ℕ → ℕ → Rule → Type 0
+IsTextRefusal IsFirstOther text line rule =
+    IsNoScript text line rule ⊎ (IsScript text × IsFirstOther text line × (rule ≡ rules.NotYet))
+
+-- The first refusal: of A's text, then of B's, then of a letter of A that B does not bind.
+abbrev pub IsRefusal : List ℕ → List ℕ → List ℕ → List ℕ → List ℕ → ℕ → Rule → Type 0
+IsRefusal name_a text_a name_b text_b name line rule =
+    ((name ≡ name_a) × IsTextRefusal IsFirstOtherQuestion text_a line rule)
+    ⊎ ((letters : List ℕ) × Asks text_a letters × (name ≡ name_b) × IsTextRefusal IsFirstOtherBinding text_b line rule)
+    ⊎ ((letters : List ℕ) × (bindings : List Binding) × Asks text_a letters × BindsAll text_b bindings
+    × (name ≡ name_a) × IsFirstUnbound bindings letters line × (rule ≡ rules.NotYet))
 
 -- a file that is not there, or could not be read, with its line of text
 abbrev pub IsFileRefusal : Held → List ℕ → ℕ → ℕ → List ℕ → Type 0
@@ -95,7 +123,8 @@ abbrev pub PairGives : Status → List ℕ → List ℕ → Outside → Outside 
 PairGives status.Done name_a name_b old new text = Runs status.Done name_a name_b old new text
 PairGives status.Device name_a name_b old new text = Runs status.Device name_a name_b old new text
 PairGives status.Script name_a name_b old new text =
-    (s : Scripts name_a name_b old.held) × (name : List ℕ) × (line : ℕ) × IsRefusal name_a s.text_a name_b s.text_b name line × (text ≡ script_line name line) × Unbegun old new
+    (s : Scripts name_a name_b old.held) × (name : List ℕ) × (line : ℕ) × (rule : Rule) × IsRefusal name_a s.text_a name_b s.text_b name line rule
+    × (text ≡ script_line name line rule) × Unbegun old new
 PairGives status.File name_a name_b old new text = Unbegun old new
     × (IsFileRefusal old.held name_a old.file_faults new.file_faults text
     ⊎ ((text_a : List ℕ) × Holds old.held name_a text_a × IsFileRefusal old.held name_b old.file_faults new.file_faults text))

@@ -1,6 +1,8 @@
 -- What the program prints: the report of a pair, and the lines of its refusals.
 use Rattle.std.specs.Fmt.{decimal}
 use Rattle.std.specs.Prelude.{ℕ, if◌then◌else◌, ◌==◌, Bool, true, List, [], ◌∷◌, ◌++◌, length, Option, Some, None, codes}
+use Rattle.rp_base.specs.Names.{rule_name}
+use Rattle.rp_base.specs.declared.rules.Rule.{Rule}
 use Rattle.pair_run.specs.declared.ends.RunEnd.{RunEnd}
 use Rattle.pair_run.specs.Running.{end_name}
 
@@ -39,9 +41,9 @@ report end out_b out_a units tables =
 abbrev pub words_line : ℕ → List ℕ
 words_line at = line (codes "rpyc: words at " ++ decimal at)
 
--- `rpyc: NAME line L rule NotYet`
-abbrev pub script_line : List ℕ → ℕ → List ℕ
-script_line name number = line (codes "rpyc: " ++ name ++ codes " line " ++ decimal number ++ codes " rule NotYet")
+-- `rpyc: NAME line L rule R`
+abbrev pub script_line : List ℕ → ℕ → Rule → List ℕ
+script_line name number rule = line (codes "rpyc: " ++ name ++ codes " line " ++ decimal number ++ codes " rule " ++ rule_name rule)
 
 -- `rpyc: NAME not there`
 abbrev pub not_there_line : List ℕ → List ℕ

@@ -2,7 +2,7 @@ ghost use Rattle.std.specs.Prelude.{◌≡◌, ◌≤◌, ℕ, map, IfOk, OnOk, 
 ghost use Rattle.pair_run.specs.Running.{AreJoined, IsCutRun, wires};
 ghost use Rattle.pair_run.specs.Scripts.{AsksFor, Binds, IsFirstOtherQuestion, IsFirstOtherBinding, IsFirstUnbound, IsLetter, IsBinding, number_of};
 ghost use Rattle.rpyc_cmd.specs.Deciding.{IfRefused, IfNoMemory, RefusesScript, Finished};
-ghost use Rattle.rpyc_cmd.specs.Outcome.{Holds, IsFileRefusal, IsRefusal, AreAccepted, IsDecided, IsDumped, PairGives, PairRunsOut, Gives, AskedRunsOut, Decides, RunsOut, Ends, outside, Unbegun};
+ghost use Rattle.rpyc_cmd.specs.Outcome.{Asks, BindsAll, IsScript, IsNoScript, IsTextRefusal, Holds, IsFileRefusal, IsRefusal, AreAccepted, IsDecided, IsDumped, PairGives, PairRunsOut, Gives, AskedRunsOut, Decides, RunsOut, Ends, outside, Unbegun};
 ghost use Rattle.rpyc_cmd.specs.Report.{script_line};
 ghost use Rattle.rpyc_cmd.specs.Words.{asked_by};
 
@@ -10,8 +10,9 @@ use crate::report::{not_there_text, pair_report, read_fault_text, script_text, w
 use crate::status::Status;
 use crate::words::{Command, read_words};
 use pair_run::{Binding, PairScripts, RunEnd, ScriptEnd, bindings, questions, run_pair};
+use py_scope::{AcceptEnd, accept};
 use report_text::{Dump, dump};
-use rp_base::{Blob, NoMemory, Text};
+use rp_base::{Blob, NoMemory, Rule, Text};
 use std::alloc::Global;
 use wire_io::{FileAnswer, Files, Sink, Wire, WireEnd, write_all};
 
@@ -59,11 +60,11 @@ fn read_file<F: Files>(alloc: Global, name: &str, files: &mut F) -> Result<Blob,
     }))
 }
 
-/// The refusal of a script at a line.
-fn refusal(alloc: Global, name: &str, line: usize) -> Stop
-    ensures { IfRefused (λ decided text. (decided ≡ Status.Script) × (text ≡ script_line name.now line)) result }
+/// The refusal of a script at a line by a rule.
+fn refusal(alloc: Global, name: &str, line: usize, rule: Rule) -> Stop
+    ensures { IfRefused (λ decided text. (decided ≡ Status.Script) × (text ≡ script_line name.now line rule)) result }
 {
-    match script_text(alloc, name, line) {
+    match script_text(alloc, name, line, rule) {
         Ok(text) => Stop::Refused(Decided {
             status: Status::Script,
             text,
@@ -72,26 +73,42 @@ fn refusal(alloc: Global, name: &str, line: usize) -> Stop
     }
 }
 
-/// The letters that A's script asks for.
-fn letters_of(alloc: Global, name: &str, text: &[u8]) -> Result<Vec<u8>, Stop>
-    ensures asks { IfOk result (λ letters. AsksFor text.now letters.items) }
-    ensures refused { IfErr result (IfRefused (RefusesScript (λ refused line. (refused ≡ name.now) × IsFirstOtherQuestion text.now line))) }
+/// Refuses a text that is no script of the language.
+fn check_script(alloc: Global, name: &str, text: &[u8]) -> Result<(), Stop>
+    ensures accepted { OnOk result (IsScript text.now) }
+    ensures refused { IfErr result (IfRefused (RefusesScript (λ refused line rule. (refused ≡ name.now) × IsNoScript text.now line rule))) }
 {
-    match questions(alloc, text) {
+    match accept(alloc, text) {
+        Ok(_program) => Ok(()),
+        Err(AcceptEnd::Refused(refused)) => {
+            Err(refusal(alloc, name, refused.line as usize, refused.rule))
+        }
+        Err(AcceptEnd::NoMemory) => Err(Stop::NoMemory),
+    }
+}
+
+/// The letters that A's script asks for.
+fn letters_of(alloc: Global, name_a: &str, text_a: &[u8]) -> Result<Vec<u8>, Stop>
+    ensures asks { IfOk result (λ letters. Asks text_a.now letters.items) }
+    ensures refused { IfErr result (IfRefused (RefusesScript (λ refused line rule. (refused ≡ name_a.now) × IsTextRefusal IsFirstOtherQuestion text_a.now line rule))) }
+{
+    check_script(alloc, name_a, text_a)?;
+    match questions(alloc, text_a) {
         Ok(letters) => Ok(letters),
-        Err(ScriptEnd::NotYet(line)) => Err(refusal(alloc, name, line)),
+        Err(ScriptEnd::NotYet(line)) => Err(refusal(alloc, name_a, line, Rule::NotYet)),
         Err(ScriptEnd::NoMemory) => Err(Stop::NoMemory),
     }
 }
 
 /// What B's script binds.
-fn bindings_of(alloc: Global, name: &str, text: &[u8]) -> Result<Vec<Binding>, Stop>
-    ensures binds { IfOk result (λ bindings. Binds text.now bindings.items) }
-    ensures refused { IfErr result (IfRefused (RefusesScript (λ refused line. (refused ≡ name.now) × IsFirstOtherBinding text.now line))) }
+fn bindings_of(alloc: Global, name_b: &str, text_b: &[u8]) -> Result<Vec<Binding>, Stop>
+    ensures binds { IfOk result (λ bindings. BindsAll text_b.now bindings.items) }
+    ensures refused { IfErr result (IfRefused (RefusesScript (λ refused line rule. (refused ≡ name_b.now) × IsTextRefusal IsFirstOtherBinding text_b.now line rule))) }
 {
-    match bindings(alloc, text) {
+    check_script(alloc, name_b, text_b)?;
+    match bindings(alloc, text_b) {
         Ok(bindings) => Ok(bindings),
-        Err(ScriptEnd::NotYet(line)) => Err(refusal(alloc, name, line)),
+        Err(ScriptEnd::NotYet(line)) => Err(refusal(alloc, name_b, line, Rule::NotYet)),
         Err(ScriptEnd::NoMemory) => Err(Stop::NoMemory),
     }
 }
@@ -108,17 +125,17 @@ fn join(
     ensures kept { IfOk result (λ s. (s.letters.items ≡ letters.items) × (s.bindings.items ≡ bindings.items)) }
     ensures bound { OnOk result (All (λ letter. IsSome (number_of bindings.items letter)) letters.items) }
     ensures joined { IfOk result (λ s. AreJoined s.letters.items s.bindings.items s.namespace.items) }
-    ensures refused { IfErr result (IfRefused (RefusesScript (λ refused line. (refused ≡ name.now) × IsFirstUnbound bindings.items letters.items line))) }
+    ensures refused { IfErr result (IfRefused (RefusesScript (λ refused line rule. (refused ≡ name.now) × IsFirstUnbound bindings.items letters.items line × (rule ≡ Rule.NotYet)))) }
 {
     match PairScripts::new(alloc, letters, bindings) {
         Ok(scripts) => Ok(scripts),
-        Err(ScriptEnd::NotYet(line)) => Err(refusal(alloc, name, line)),
+        Err(ScriptEnd::NotYet(line)) => Err(refusal(alloc, name, line, Rule::NotYet)),
         Err(ScriptEnd::NoMemory) => Err(Stop::NoMemory),
     }
 }
 
 /// The two scripts, or the first refusal.
-fn accept(
+fn read_scripts(
     alloc: Global,
     name_a: &str,
     text_a: &[u8],
@@ -178,7 +195,7 @@ fn decide_pair<F: Files, W: Wire>(
 {
     let text_a = read_file(alloc, name_a, files)?;
     let text_b = read_file(alloc, name_b, files)?;
-    match accept(alloc, name_a, text_a.as_slice(), name_b, text_b.as_slice()) {
+    match read_scripts(alloc, name_a, text_a.as_slice(), name_b, text_b.as_slice()) {
         Ok(scripts) => match decide_run(alloc, scripts, ab, ba) {
             Ok(decided) => Ok(decided),
             Err(NoMemory) => Err(Stop::NoMemory),

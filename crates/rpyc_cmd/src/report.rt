@@ -65,11 +65,10 @@ pub fn words_text(alloc: Global, at: usize) -> Result<Text, NoMemory>
     Ok(Text::from_string(format!(in alloc; "rpyc: words at {at}\n")?))
 }
 
-/// The line of a refusal of a script: the file's name, and the line, counted from 1.
-pub fn script_text(alloc: Global, name: &str, line: usize) -> Result<Text, NoMemory>
-    ensures { IfOk result (λ text. text ≡ script_line name.now line) }
+/// The line of a refusal of a script: the file's name, the line, counted from 1, and the rule.
+pub fn script_text(alloc: Global, name: &str, line: usize, rule: Rule) -> Result<Text, NoMemory>
+    ensures { IfOk result (λ text. text ≡ script_line name.now line rule) }
 {
-    let rule = Rule::NotYet;
     let code = rule.text();
     Ok(Text::from_string(format!(in alloc; "rpyc: {name} line {line} rule {code}\n")?))
 }

@@ -121,7 +121,7 @@ fn texts_and_their_reports(rt: HostRuntime) -> Result<(), Fail> {
             b"print(conn.namespace[\"z\"])\n",
             TOO_GREAT,
             Status::Script,
-            "rpyc: b.py line 2 rule NotYet\n",
+            "rpyc: b.py line 2 rule L4\n",
         ),
         (
             TWO,
@@ -132,6 +132,33 @@ fn texts_and_their_reports(rt: HostRuntime) -> Result<(), Fail> {
     ];
     for (a, b, status, text) in runs {
         check(&rt, alloc, a, b, status, text)?;
+    }
+    Ok(())
+}
+
+#[test]
+fn refused_scripts(rt: HostRuntime) -> Result<(), Fail> {
+    let alloc = rt.alloc();
+    let refusals: [(&[u8], &[u8], &str); 8] = [
+        (
+            b"a = [1]\nb = [1]\nprint(a is b)\n",
+            B,
+            "rpyc: a.py line 3 rule S5\n",
+        ),
+        (
+            b"raise StopIteration(1)\n",
+            B,
+            "rpyc: a.py line 1 rule S7\n",
+        ),
+        (b"\tprint(1)\n", B, "rpyc: a.py line 1 rule L1\n"),
+        (b"with x:\n", B, "rpyc: a.py line 1 rule P2\n"),
+        (b"x = (\n", B, "rpyc: a.py line 1 rule P1\n"),
+        (b"print(1)\n", B, "rpyc: a.py line 1 rule NotYet\n"),
+        (b"print(1)\n", b"x = (\n", "rpyc: a.py line 1 rule NotYet\n"),
+        (A, b"y = 1\nx = (\n", "rpyc: b.py line 2 rule P1\n"),
+    ];
+    for (a, b, text) in refusals {
+        check(&rt, alloc, a, b, Status::Script, text)?;
     }
     Ok(())
 }
@@ -168,7 +195,7 @@ fn long_texts(rt: HostRuntime) -> Result<(), Fail> {
         b"",
         &longer,
         Status::Script,
-        "rpyc: b.py line 32769 rule NotYet\n",
+        "rpyc: b.py line 32769 rule L5\n",
     )?;
     Ok(())
 }
