@@ -2,6 +2,7 @@ pub mod ActLaws
 pub mod AnswerLaws
 pub mod BuildingExamples
 pub mod DerivedLaws
+pub mod GuardExamples
 pub mod PartLaws
 pub mod PlaceLaws
 pub mod ReadLaws

@@ -1,5 +1,5 @@
 -- The token at a place, its kind, its line and its refusal.
-use Rattle.std.proofs.Common.{◌≡◌, ◌∙◌, sym, refl, ap, ap₂, subst, ℕ, zero, suc, ◌-◌, Bool, true, false, ◌&&◌, ◌||◌, List, [], ◌∷◌, ◌++◌, map, Option, Some, None, sub-one}
+use Rattle.std.proofs.Common.{◌≡◌, ◌∙◌, sym, refl, ap, ap₂, subst, ℕ, zero, suc, ◌-◌, Bool, ◌&&◌, ◌||◌, List, [], ◌∷◌, map, Option, Some, None, sub-one}
 use Rattle.std.specs.List.{slice_get}
 use Rattle.py_ast.specs.declared.program.Program.{Program}
 use Rattle.py_grammar.specs.declared.symbol.Start.{Start}
@@ -13,7 +13,6 @@ use Rattle.py_grammar.proofs.TextLaws.{reads-exactly, stops-inside, tells-the-ru
 use Rattle.py_grammar.proofs.RefusalLaws.{nowhere}
 use Rattle.py_lexer.specs.declared.token.Token.{Token}
 use Rattle.rp_base.specs.declared.rules.Refused.{Refused}
-use Rattle.rp_base.specs.declared.rules.Rule.{Rule}
 use Rattle.py_parser.specs.declared.builder.Building.{Building}
 use Rattle.py_parser.specs.declared.reading.Reached.{Reached}
 use Rattle.py_parser.specs.declared.reading.Reached.TheVariants as reached

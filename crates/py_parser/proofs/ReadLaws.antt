@@ -1,9 +1,8 @@
 -- The end of the text is a token behind all others, so a text that is whole before it is stuck at the next one.
-use Rattle.std.proofs.Common.{◌≡◌, ◌∙◌, sym, refl, ap, ap₂, subst, ℕ, suc, ◌+◌, ◌<◌, List, [], ◌∷◌, drop, length, get_or, drop-cons, add-one}
+use Rattle.std.proofs.Common.{◌≡◌, ◌∙◌, sym, refl, ap, subst, ℕ, ◌+◌, ◌<◌, List, [], ◌∷◌, drop, length, get_or, drop-cons, add-one}
 use Rattle.py_grammar.specs.declared.symbol.Limits.{Limits}
 use Rattle.py_grammar.specs.declared.symbol.Symbol.{Symbol}
 use Rattle.py_grammar.specs.declared.terminal.Terminal.{Terminal}
-use Rattle.py_grammar.specs.Building.{Lexeme}
 use Rattle.py_grammar.specs.Reading.{Step, Refused, Took, Closed, Outcome, Stuck, closed, go_on, depth_of_words}
 use Rattle.py_lexer.specs.declared.token.Token.{Token}
 use Rattle.py_parser.specs.declared.builder.Building.{Building}
@@ -32,6 +31,6 @@ pub closed_here : (lim : Limits) (i : ℕ) (text word : List ℕ) (tokens : List
 closed_here lim i text word tokens none k old s b c became whole lt e f h is so =
     let t = get_or tokens i none in
     let now : Stepped taken.Closed s c (steps lim depth_of_words old b (lexeme_in text t)) =
-        subst (λ x. Stepped x s c (steps lim depth_of_words old b (lexeme_in text t))) is (subst (λ u. Stepped became s c (steps lim depth_of_words old b u)) (spelled_so text word k t e f) h) in
+    subst (λ x. Stepped x s c (steps lim depth_of_words old b (lexeme_in text t))) is (subst (λ u. Stepped became s c (steps lim depth_of_words old b u)) (spelled_so text word k t e f) h) in
     let rest : drop i tokens ≡ t ∷ drop (i + 1) tokens = drop-cons tokens i none lt ∙ ap (λ n. t ∷ drop n tokens) (sym (add-one i)) in
     closed_by lim i text (drop (i + 1) tokens) s c whole (steps lim depth_of_words old b (lexeme_in text t)) now (so ∙ ap (λ ts. beyond i (read_on lim old b (lexemes text ts))) rest)

@@ -1,5 +1,5 @@
 -- No way has more than 16 parts.
-use Rattle.std.proofs.Common.{◌≡◌, ◌∙◌, sym, refl, ap, subst, ℕ, suc, ◌+◌, ◌-◌, ◌*◌, ◌<◌, ◌≤◌, Bool, true, ◌&&◌, nat_le, inl, inr, List, [], ◌∷◌, ◌++◌, length, length-append, Option, Some, None, arith, leb-true}
+use Rattle.std.proofs.Common.{◌≡◌, sym, refl, ap, subst, ℕ, suc, ◌+◌, ◌-◌, ◌*◌, ◌<◌, ◌≤◌, Bool, true, ◌&&◌, nat_le, inl, inr, List, [], ◌∷◌, ◌++◌, length, length-append, Option, Some, None, arith, leb-true}
 use Rattle.py_grammar.specs.declared.symbol.Limits.{Limits}
 use Rattle.py_grammar.specs.declared.symbol.Symbol.{Symbol}
 use Rattle.py_grammar.specs.declared.symbol.Symbol.TheVariants as symbol

@@ -5,7 +5,7 @@ use Rattle.py_grammar.specs.declared.symbol.Symbol.{Symbol}
 use Rattle.py_grammar.specs.Writing.{deeper}
 use Rattle.py_parser.specs.declared.table.Part.{Part}
 use Rattle.py_parser.specs.declared.table.Part.TheVariants as part
-use Rattle.py_parser.specs.Rows.{symbol_of, symbols_of}
+use Rattle.py_parser.specs.Rows.{symbols_of}
 
 on_one : (d : ℕ) (x : Part) (ys : List Part) → deeper d (symbols_of (x ∷ ys)) ≡ deeper d (symbols_of (x ∷ [])) ++ deeper d (symbols_of ys)
 on_one d (part.Terminal k) ys = refl

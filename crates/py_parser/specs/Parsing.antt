@@ -8,7 +8,7 @@ use Rattle.py_grammar.specs.declared.terminal.Terminal.{Terminal}
 use Rattle.py_grammar.specs.declared.terminal.Terminal.TheVariants as t
 use Rattle.py_grammar.specs.Building.{Lexeme}
 use Rattle.py_grammar.specs.Deriving.{Derives}
-use Rattle.py_grammar.specs.Reading.{has, Outcome, Done, Stuck}
+use Rattle.py_grammar.specs.Reading.{has}
 use Rattle.py_grammar.specs.Refusals.{IsRefused, any_depth, unlimited, left_out, literals, passed, rule_of}
 use Rattle.py_grammar.specs.Table.{opening}
 use Rattle.rp_base.specs.declared.rules.Refused.{Refused}

@@ -1,13 +1,12 @@
 -- How the code's steps follow the grammar's reading.
-use Rattle.std.specs.Prelude.{◌≡◌, ℕ, ◌+◌, true, false, ◌++◌, List, [], ◌∷◌, Option, Some, None}
-use Rattle.py_grammar.specs.declared.act.Act.{Act}
+use Rattle.std.specs.Prelude.{◌≡◌, ℕ, ◌+◌, true, false, ◌++◌, List, Option, Some, None}
 use Rattle.py_grammar.specs.declared.symbol.Limits.{Limits}
 use Rattle.py_grammar.specs.declared.symbol.Symbol.{Symbol}
 use Rattle.py_grammar.specs.declared.terminal.Terminal.{Terminal}
 use Rattle.py_grammar.specs.declared.word.Word.{Word}
-use Rattle.py_grammar.specs.Building.{Builder, Lexeme}
-use Rattle.py_grammar.specs.Reading.{Step, Refused, Took, Closed, step, fits, pick, Outcome, Done, Stuck, run}
-use Rattle.py_grammar.specs.Table.{ways, empty}
+use Rattle.py_grammar.specs.Building.{Lexeme}
+use Rattle.py_grammar.specs.Reading.{Step, Refused, Took, Closed, step, fits, Outcome, Done, Stuck, run}
+use Rattle.py_grammar.specs.Table.{empty}
 use Rattle.py_grammar.specs.Ways.{Way}
 use Rattle.py_grammar.specs.Writing.{deeper}
 use Rattle.py_parser.specs.declared.builder.Building.{Building}

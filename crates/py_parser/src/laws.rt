@@ -22,5 +22,4 @@ pub fn trees_are_numbered()
 pub fn a_text_has_one_answer()
     ensures one_tree { (start : Start) (text : List Lexeme) (one two : Program) → HasTree start text one → HasTree start text two → one ≡ two }
     ensures not_both { (start : Start) (text : List Lexeme) (program : Program) (refused : Refused) → HasTree start text program → IsFirstMisfit start text refused → ⊥ }
-{
-}
+{}

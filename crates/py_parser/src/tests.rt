@@ -10,10 +10,19 @@ type Row = (&'static str, Option<(u32, Rule)>);
 const SCRIPTS: [Row; 24] = [
     ("", None),
     ("x = 1, 2\nx[0], y.z = f(x,)[()]\n", None),
-    ("if a < b is not c:\n  pass\nelif not a: return\nelse:\n  raise E(1)\n", None),
+    (
+        "if a < b is not c:\n  pass\nelif not a: return\nelse:\n  raise E(1)\n",
+        None,
+    ),
     ("for f(x).a, b in y: del b[0]\n", None),
-    ("try:\n  x\nexcept (A, B) as e:\n  y\nexcept: z\nfinally: w\n", None),
-    ("def f(a, b,):\n  return lambda: a ** -b if a else b\n", None),
+    (
+        "try:\n  x\nexcept (A, B) as e:\n  y\nexcept: z\nfinally: w\n",
+        None,
+    ),
+    (
+        "def f(a, b,):\n  return lambda: a ** -b if a else b\n",
+        None,
+    ),
     ("class C(D):\n  x = {1: 2, 3: 4,}\n\nx //= 2", None),
     ("f(x) = 1\n", Some((1, Rule::P2))),
     ("(a) = 1\n", Some((1, Rule::P2))),
