@@ -74,11 +74,11 @@ fn a_chain_is_one_node(rt: HostRuntime) -> Result<(), Fail> {
     let Some(Expression::Compare { first: 0, links }) = expression(&program, 3) else {
         return Err(Fail::new("no chain"));
     };
-    let links = links.as_slice();
-    assert!(rt; links[0].comparison == Comparison::Order(CmpOp::Lt) && links[0].right == 1);
-    assert!(rt;
-        links[1].comparison == Comparison::IsNot && links[1].line == 2 && links[1].right == 2
-    );
+    let [less, is_not] = links.as_slice() else {
+        return Err(Fail::new("no two links"));
+    };
+    assert!(rt; less.comparison == Comparison::Order(CmpOp::Lt) && less.right == 1);
+    assert!(rt; is_not.comparison == Comparison::IsNot && is_not.line == 2 && is_not.right == 2);
     Ok(())
 }
 
