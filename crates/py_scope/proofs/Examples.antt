@@ -1,13 +1,12 @@
 -- Worked examples: rules and scopes of small scripts.
 use Rattle.std.proofs.Common.{◌≡◌, ℕ, true, false, List, [], ◌∷◌, codes, Option, Some, None, refl}
 use Rattle.rp_base.specs.declared.rules.Rule.TheVariants as rule
-use Rattle.rp_base.specs.declared.rules.Refused.{Refused}
 use Rattle.py_ast.specs.declared.program.FunctionInfo.{FunctionInfo}
 use Rattle.py_mentions.specs.declared.mention.Form.{Form}
 use Rattle.py_mentions.specs.declared.mention.Form.TheVariants as form
 use Rattle.py_mentions.specs.declared.mention.Mention.{Mention}
 use Rattle.py_scope.specs.Words.{is_left_out, is_special}
-use Rattle.py_scope.specs.Finished.{free_names, other_locals, handler_names}
+use Rattle.py_scope.specs.Finished.{free_names, other_locals}
 use Rattle.py_scope.specs.Rules.{broken_names}
 use Rattle.py_scope.specs.Computing.{scopes_compute}
 

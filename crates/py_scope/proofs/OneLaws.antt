@@ -1,5 +1,5 @@
 -- A text has one judgement.
-use Rattle.std.proofs.Common.{◌≡◌, ◌∙◌, sym, ap, subst, refl, ℕ, zero, suc, ◌<◌, ◌≤◌, Bool, true, false, List, [], ◌∷◌, ◌++◌, append_assoc, Result, Ok, Err, ◌⊎◌, inl, inr, arith}
+use Rattle.std.proofs.Common.{◌≡◌, ◌∙◌, sym, ap, subst, refl, ℕ, zero, suc, ◌<◌, ◌≤◌, true, false, List, [], ◌∷◌, ◌++◌, append_assoc, Result, Ok, Err, ◌⊎◌, inl, inr, arith}
 use Rattle.std.proofs.lemmas.Bool.{cases_order}
 use Rattle.rp_base.specs.declared.rules.Rule.{Rule}
 use Rattle.rp_base.specs.declared.rules.Rule.TheVariants as rule
@@ -70,8 +70,10 @@ module _ (B : Type 0) (m : Builder B) (lim : Limits) (ss : List Symbol) (b : B) 
   module _ (before : List Lexeme) (u : Lexeme) where
     abbrev Deep : Type 0
     Deep = CanBegin B m (any_depth lim) ss b (before ++ (u ∷ []))
+
     abbrev Long : Type 0
     Long = CanBegin B m unlimited ss b (before ++ (u ∷ []))
+
     abbrev Verdict : Rule → Type 0
     Verdict r = ((r ≡ rule.P3) × Deep) ⊎ (((r ≡ rule.P4) × (Deep → ⊥) × Long) ⊎ (((r ≡ rule.P2) × (Deep → ⊥) × (Long → ⊥) × (belongs_to_left_out before u ≡ true))
         ⊎ ((r ≡ rule.P1) × (Deep → ⊥) × (Long → ⊥) × (belongs_to_left_out before u ≡ false))))
@@ -110,9 +112,11 @@ module _ (s : Start) (ts : List Lexeme) where
   same_place : (n : ℕ) (u v : Lexeme) (q r : Rule) → Refuses n u q → Refuses n v r → (u ≡ v) × (q ≡ r)
   same_place n u v q r x y =
       let same : u ≡ v = one_at n ts u v x.0 y.0 in
-      let here : Breaks _ builder script_limits (opening s) begun (leading n ts) u r = subst (λ w. Breaks _ builder script_limits (opening s) begun (leading n ts) w r) (sym same) y.3 in
-      (same, one_verdict _ builder script_limits (opening s) begun (leading n ts) u q r
-      (verdict _ builder script_limits (opening s) begun (leading n ts) u q x.3) (verdict _ builder script_limits (opening s) begun (leading n ts) u r here))
+      let here : Breaks _ builder script_limits (opening s) begun (leading n ts) u r = subst (λ w. Breaks _ builder script_limits (opening s) begun (leading n ts) w r) (sym same) y.3 in (
+        same,
+        one_verdict _ builder script_limits (opening s) begun (leading n ts) u q r
+            (verdict _ builder script_limits (opening s) begun (leading n ts) u q x.3) (verdict _ builder script_limits (opening s) begun (leading n ts) u r here),
+      )
 
   same_refusal : (n k : ℕ) (u v : Lexeme) (q r : Rule) → Refuses n u q → Refuses k v r → (n ≡ k) ⊎ ((n < k) ⊎ (k < n)) → (u ≡ v) × (q ≡ r)
   same_refusal n k u v q r x y (inl e) = same_place n u v q r x (subst (λ i. Refuses i v r) (sym e) y)

@@ -1,5 +1,4 @@
 -- An end of an earlier step is the end of the whole.
-use Rattle.std.specs.Prelude.{◌≡◌, ℕ, ◌≤◌, List, length, Result, Ok, Err}
 use Rattle.rp_base.specs.declared.rules.Refused.{Refused}
 use Rattle.py_lexer.specs.declared.token.LexEnd.{LexEnd}
 use Rattle.py_lexer.specs.declared.token.LexEnd.TheVariants as lex_end

@@ -1,10 +1,12 @@
+use crate::accepting::{accept, accept_expr};
+use crate::ending::AcceptEnd;
 use crate::facts::Facts;
 use crate::scopes::handler_names;
 use py_ast::FunctionInfo;
 use py_mentions::{Form, Mention};
 use rp_base::{NoMemory, Refused, Rule, Text};
 use sqlite_items::Items;
-use std::alloc::Global;
+use std::alloc::{AllocError, Global};
 use std::test::Fail;
 
 /// A mention on each line: the name, its function (0 where it stands at the top, else one more than the number), the form.
@@ -168,5 +170,122 @@ fn names_that_functions_keep(rt: HostRuntime) -> Result<(), Fail> {
     assert!(rt; keeps(functions.get(2), &[], &["b", "c"], false));
     let handlers = handler_names(alloc, mentions.as_slice())?.texts(alloc)?;
     assert!(rt; has_names(handlers.as_slice(), &["e"]));
+    Ok(())
+}
+
+/// What a text is refused for.
+fn refusal(alloc: Global, text: &[u8]) -> Option<AcceptEnd> {
+    match accept(alloc, text) {
+        Ok(_) => None,
+        Err(end) => Some(end),
+    }
+}
+
+#[test]
+fn refused_texts(rt: HostRuntime) -> Result<(), Fail> {
+    let texts: [(&[u8], u32, Rule); 26] = [
+        (b"x\n\ty", 2, Rule::L1),
+        (b"if x:\n  y\n z", 3, Rule::L2),
+        (b"x $ y", 1, Rule::L3),
+        (b"x = 01", 1, Rule::L4),
+        (
+            b"abcdefghijklmnopqrstuvwxyzabcdefghijklmnopqrstuvwxyzabcdefghijklm",
+            1,
+            Rule::L5,
+        ),
+        (b"x = 1\ny = '\xff'", 2, Rule::L6),
+        (b"$\n\xff", 1, Rule::L3),
+        (b"x = (", 1, Rule::P1),
+        (b"x\nwith x:", 2, Rule::P2),
+        (b"x = 1\nlen = 1", 2, Rule::S1),
+        (b"x = len", 1, Rule::S2),
+        (b"raise oops", 1, Rule::S2),
+        (b"len()", 1, Rule::S3),
+        (b"x.__y", 1, Rule::S4),
+        (b"class A:\n def __init__():\n  pass", 2, Rule::S4),
+        (b"a = [1]\nb = [1]\nprint(a is b)", 3, Rule::S5),
+        (b"try:\n x = 1\nexcept KeyError as e:\n x = e", 4, Rule::S6),
+        (b"raise StopIteration(1)", 1, Rule::S7),
+        (b"class A(A):\n pass", 1, Rule::S8),
+        (
+            b"class A:\n pass\ndef A():\n pass\nclass B(A):\n pass",
+            5,
+            Rule::S8,
+        ),
+        (
+            b"class A:\n def __eq__(self, x):\n  return 1\nclass B(A):\n pass",
+            1,
+            Rule::S8,
+        ),
+        (b"class A:\n print(1)", 2, Rule::S9),
+        (b"return 1", 1, Rule::S10),
+        (b"def f():\n x = 1\n global x", 3, Rule::S11),
+        (
+            b"def f():\n x = 1\n def g():\n  global x\n  def h():\n   nonlocal x",
+            6,
+            Rule::S11,
+        ),
+        (b"def f(a,\n a):\n pass", 2, Rule::S12),
+    ];
+    for (text, line, rule) in texts {
+        let refused = AcceptEnd::Refused(Refused { line, rule });
+        assert_eq!(rt; refusal(rt.alloc(), text), Some(refused));
+    }
+    Ok(())
+}
+
+#[test]
+fn accepted_texts(rt: HostRuntime) -> Result<(), Fail> {
+    let texts: [&[u8]; 11] = [
+        b"",
+        b"x = len('a')\nx.next()",
+        b"try:\n x = 1\nexcept KeyError as e:\n raise e",
+        b"try:\n x = 1\nexcept (KeyError, TypeError) as e:\n x = str(e)",
+        b"class A:\n def __init__(self):\n  self.x = 1\n def __eq__(self, x):\n  return 1",
+        b"print(x is None)",
+        b"raise StopIteration",
+        b"class B:\n x = 1\nclass A(B):\n 'a text'\n pass",
+        b"def f():\n while 1:\n  break\n return 1",
+        b"def f():\n x = 1\n def g():\n  nonlocal x\n  x = 2",
+        b"def f(a, b):\n global c\n c = a",
+    ];
+    for text in texts {
+        assert_eq!(rt; refusal(rt.alloc(), text), None);
+    }
+    let expression = accept_expr(rt.alloc(), b"(x + 1, len('a'))")?;
+    assert!(rt; expression.is_expression && expression.functions.is_empty());
+    assert!(rt; accept_expr(rt.alloc(), b"x = 1").is_err());
+    Ok(())
+}
+
+/// `many` between two parts, so many times.
+fn repeated(
+    alloc: Global,
+    front: &str,
+    many: &str,
+    times: u32,
+    back: &str,
+) -> Result<Vec<u8>, AllocError> {
+    let mut text = Vec::from_slice(alloc, front.as_bytes())?;
+    for _time in 0..times {
+        text.extend_from_slice(many.as_bytes())?;
+    }
+    text.extend_from_slice(back.as_bytes())?;
+    Ok(text)
+}
+
+#[test]
+fn limits_of_the_grammar(rt: HostRuntime) -> Result<(), Fail> {
+    let texts: [(&str, &str, u32, &str, Option<Rule>); 4] = [
+        ("", "(", 100, "x", Some(Rule::P1)),
+        ("", "(", 101, "x", Some(Rule::P3)),
+        ("f(", "0,", 255, ")", None),
+        ("f(", "0,", 255, "0)", Some(Rule::P4)),
+    ];
+    for (front, many, times, back, rule) in texts {
+        let text = repeated(rt.alloc(), front, many, times, back)?;
+        let wanted = rule.map(|rule| AcceptEnd::Refused(Refused { line: 1, rule }));
+        assert_eq!(rt; refusal(rt.alloc(), text.as_slice()), wanted);
+    }
     Ok(())
 }

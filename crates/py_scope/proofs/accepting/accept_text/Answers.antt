@@ -1,4 +1,4 @@
-use Rattle.std.proofs.Common.{◌≡◌, ◌≤◌, sym, subst, List, length, Err}
+use Rattle.std.proofs.Common.{subst, List, Err}
 use Rattle.py_lexer.specs.declared.token.Token.{Token}
 use Rattle.py_parser.specs.Lexemes.{lexemes}
 use Rattle.py_parser.specs.Parsing.{Parsed}

@@ -1,4 +1,4 @@
-use Rattle.std.proofs.Common.{◌≡◌, ◌≤◌, ◌<◌, ◌-◌, ◌∙◌, ap, sym, subst, List, ℕ, length, get_or}
+use Rattle.std.proofs.Common.{◌≡◌, ◌≤◌, ◌<◌, ◌-◌, sym, subst, List, ℕ, length, get_or}
 use Rattle.py_scope.proofs.AcceptLaws.{boundary_at, short_text}
 use Rattle.py_scope.proofs.accepting.unreadable.Goals as goal
 
