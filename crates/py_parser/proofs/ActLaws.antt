@@ -26,8 +26,8 @@ use Rattle.rp_base.specs.declared.plain.Plain.{Plain}
 use Rattle.rp_base.specs.declared.plain.Plain.TheVariants as plain
 use Rattle.py_grammar.specs.declared.act.Act.{Act}
 use Rattle.py_grammar.specs.declared.act.Act.TheVariants as a
-use Rattle.py_literals.specs.IntValues.{int_value}
-use Rattle.py_literals.specs.Values.{bytes_value, text_value}
+use Rattle.py_literals.specs.IntValues.{int_literal_value}
+use Rattle.py_literals.specs.Values.{bytes_literal_value, text_literal_value}
 use Rattle.py_parser.specs.declared.builder.Building.{Building}
 use Rattle.py_parser.specs.declared.parts.Form.{Form}
 use Rattle.py_parser.specs.declared.parts.Form.TheVariants as form
@@ -480,9 +480,9 @@ acted_keeps a.MakeNone b k = constant_keeps plain.None b k
 acted_keeps a.MakeTrue b k = constant_keeps (plain.Bool true) b k
 acted_keeps a.MakeFalse b k = constant_keeps (plain.Bool false) b k
 acted_keeps a.MakeEllipsis b k = constant_keeps plain.Ellipsis b k
-acted_keeps a.MakeInt b k = int_keeps (int_value b.word) b k
-acted_keeps a.MakeText b k = text_keeps (text_value b.word) b k
-acted_keeps a.MakeBytes b k = bytes_keeps (bytes_value b.word) b k
+acted_keeps a.MakeInt b k = int_keeps (int_literal_value b.word) b k
+acted_keeps a.MakeText b k = text_keeps (text_literal_value b.word) b k
+acted_keeps a.MakeBytes b k = bytes_keeps (bytes_literal_value b.word) b k
 acted_keeps a.MakeAttribute b k = attribute_keeps b.trees b k k.trees_in
 acted_keeps a.MakeItem b k = item_keeps b.trees b k k.trees_in
 acted_keeps a.MakeCall b k = call_keeps b.trees b.lists b k k.trees_in k.lists_in

@@ -11,8 +11,8 @@ use Rattle.rp_base.specs.declared.operators.BinaryOp.{BinaryOp}
 use Rattle.rp_base.specs.declared.operators.UnaryOp.{UnaryOp}
 use Rattle.rp_base.specs.declared.plain.Plain.{Plain}
 use Rattle.rp_base.specs.declared.plain.Plain.TheVariants as plain
-use Rattle.py_literals.specs.IntValues.{int_value}
-use Rattle.py_literals.specs.Values.{bytes_value, text_value}
+use Rattle.py_literals.specs.IntValues.{int_literal_value}
+use Rattle.py_literals.specs.Values.{bytes_literal_value, text_literal_value}
 use Rattle.py_parser.specs.declared.builder.Building.{Building}
 use Rattle.py_parser.specs.declared.parts.Gathering.{Gathering}
 use Rattle.py_parser.specs.declared.parts.Tree.{Tree}
@@ -34,21 +34,21 @@ of_int (Some n) b = constant (plain.Int n) b
 of_int None b = stuck b
 
 abbrev pub int : Building → Building
-int b = of_int (int_value b.word) b
+int b = of_int (int_literal_value b.word) b
 
 abbrev pub of_text : Option (List ℕ) → Building → Building
 of_text (Some t) b = constant (plain.Text t) b
 of_text None b = stuck b
 
 abbrev pub text : Building → Building
-text b = of_text (text_value b.word) b
+text b = of_text (text_literal_value b.word) b
 
 abbrev pub of_bytes : Option (List ℕ) → Building → Building
 of_bytes (Some t) b = constant (plain.Bytes t) b
 of_bytes None b = stuck b
 
 abbrev pub byte_string : Building → Building
-byte_string b = of_bytes (bytes_value b.word) b
+byte_string b = of_bytes (bytes_literal_value b.word) b
 
 -- the last token is the attribute's name, and the node stands on its line
 abbrev pub attribute : List Tree → Building → Building
