@@ -54,9 +54,8 @@ pub record Scripts (name_a name_b : List ℕ) (held : Held) : Type 0 where
   pub read_b : Holds held name_b text_b
 
 -- a text of the language, with its program
-pub record IsScript (text : List ℕ) : Type 0 where
-  pub program : Program
-  pub accepted : Accepted starts.Script text program
+unfoldable pub IsScript : List ℕ → Type 0
+IsScript text = (program : Program) × Accepted starts.Script text program
 
 -- A's text is a script that asks for these letters; B's is one that binds these
 abbrev pub Asks : List ℕ → List ℕ → Type 0
@@ -72,8 +71,8 @@ pub record AreAccepted (text_a text_b : List ℕ) (letters : List ℕ) (bindings
   pub bound : All (λ letter. IsSome (number_of bindings letter)) letters
 
 -- a text that the language refuses at this line by this rule
-pub record IsNoScript (text : List ℕ) (line : ℕ) (rule : Rule) : Type 0 where
-  pub refused : RefusedAt starts.Script text (record { line = line; rule = rule })
+unfoldable pub IsNoScript : List ℕ → ℕ → Rule → Type 0
+IsNoScript text line rule = RefusedAt starts.Script text (record { line = line; rule = rule })
 
 -- The refusal of one text: it is no script, by this rule at this line; or it is one, and this line is the first that is
 -- outside the forms of this stage.

@@ -74,6 +74,7 @@ fn refusal(alloc: Global, name: &str, line: usize, rule: Rule) -> Stop
 }
 
 /// Refuses a text that is no script of the language.
+#[tactic(auto, unfolding(crate::specs::Outcome::IsScript, crate::specs::Outcome::IsNoScript))]
 fn check_script(alloc: Global, name: &str, text: &[u8]) -> Result<(), Stop>
     ensures accepted { OnOk result (IsScript text.now) }
     ensures refused { IfErr result (IfRefused (RefusesScript (λ refused line rule. (refused ≡ name.now) × IsNoScript text.now line rule))) }
