@@ -1,0 +1,9 @@
+//! The cells of a side: the objects of a program, by number.
+#![tactic(auto)]
+
+mod cell;
+mod entries;
+mod key;
+
+pub use cell::{Binding, Cell, Method, Which};
+pub use entries::Entries;
