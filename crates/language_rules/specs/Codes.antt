@@ -1,0 +1,56 @@
+-- What a side may be about to do, as data: the pieces of code of the language.
+use Rattle.std.specs.Prelude.{ℕ, List, Option}
+use Rattle.rp_base.specs.declared.exceptions.Beyond.{Beyond}
+use Rattle.rp_base.specs.declared.exceptions.Raised.{Raised}
+use Rattle.rp_base.specs.declared.operators.CmpOp.{CmpOp}
+use Rattle.rp_base.specs.declared.value.Value.{Value}
+use Rattle.object_operations.specs.declared.operation.Operation.{Operation}
+
+-- Where code runs: the number of its text, of its function (none at the top of a text), and its scope: the cell of the call's variables, or the namespace.
+pub record Env : Type 0 where
+  pub text : ℕ
+  pub function : Option ℕ
+  pub scope : ℕ
+
+-- How a piece of code ends. Gives: a value, which for a statement is None. Raises: an exception. Returns, Breaks, Continues: a statement that leaves its function or its loop.
+-- Drained: the items of a collection that was gone over.
+pub data Completion : Type 0 where
+  Gives : Value → Completion
+  Raises : Raised → Completion
+  Returns : Value → Completion
+  Breaks Continues : Completion
+  Drained : List Value → Completion
+
+-- Node: an expression or a statement of a text. Member: a statement of a class body. Perform: an operation, at the home of its receiver.
+-- Give: nothing but this end. Then: a piece of code, and then the one that goes on after it. Go: a step.
+-- WhileTest: a turn of a `while` from its test on. ForNext: a turn of a `for` from the answer of `__next__` on.
+-- DrainNext: the going over a collection, from an answer of `__next__` on, with the items so far.
+-- SearchNext: a search in a list, from the answer for the item at a position on. ValuesNext: the same in the values of a dict.
+-- ListText, DictText: the printing of a list or a dict, from the text of an item on. EqualItem: the comparison of a list with another list, from the other's item on.
+-- AddItem: a list and then another list, from the other's item on.
+-- AttributeCall: an attribute and then its call. Inspect: the methods of a cell.
+-- A step ends at once, leaves the subset, or asks an operation and goes on as code.
+mutual
+  pub data Code : Type 0 where
+    Node : Env → ℕ → Code
+    Member : Env → ℕ → Code
+    Perform : Operation → Code
+    Give : Completion → Code
+    Then : Code → (Completion → Code) → Code
+    Go : Step → Code
+    WhileTest : Env → ℕ → ℕ → Code
+    ForNext : Env → ℕ → ℕ → Value → Completion → Code
+    DrainNext : Value → List Value → Completion → Code
+    SearchNext : ℕ → ℕ → Value → Completion → Code
+    ValuesNext : ℕ → ℕ → Value → Completion → Code
+    ListText : ℕ → ℕ → List ℕ → Completion → Code
+    DictText : ℕ → ℕ → ℕ → List ℕ → Completion → Code
+    EqualItem : ℕ → Value → CmpOp → ℕ → ℕ → Completion → Code
+    AddItem : Value → ℕ → ℕ → List Value → Completion → Code
+    AttributeCall : Value → List ℕ → List Value → Code
+    Inspect : ℕ → Code
+
+  pub data Step : Type 0 where
+    Ends : Completion → Step
+    Leaves : Beyond → Step
+    Asks : Operation → (Completion → Code) → Step
