@@ -1,1 +1,6 @@
+pub mod Attributes
+pub mod Bindings
+pub mod Cells
+pub mod Computing
 pub mod EntryLists
+pub mod Identities
