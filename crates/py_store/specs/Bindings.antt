@@ -1,15 +1,12 @@
 -- Names with their values, in the order in which the names came.
-use Rattle.std.specs.Prelude.{ℕ, List, [], ◌∷◌, map, Option, Some, None, position, if◌then◌else◌}
+use Rattle.std.specs.Prelude.{ℕ, List, [], ◌∷◌, Option, Some, None, position, if◌then◌else◌}
 use Rattle.std.specs.Str.{bytes_eq}
 use Rattle.rp_base.specs.declared.value.Value.{Value}
 use Rattle.py_store.specs.declared.cell.Binding.{Binding}
 
-abbrev pub bound_names : List Binding → List (List ℕ)
-bound_names bindings = map (λ b. b.name) bindings
-
 -- the place of the name
 abbrev pub binding_place : List ℕ → List Binding → Option ℕ
-binding_place name bindings = position (bytes_eq name) (bound_names bindings)
+binding_place name bindings = position (λ b. bytes_eq name b.name) bindings
 
 -- the value that the name is bound to
 abbrev pub bound_value : List ℕ → List Binding → Option Value

@@ -1,5 +1,6 @@
 -- The entries of a dict: keys with their values, in the order in which the keys came (Python Library Reference, "Mapping Types").
 use Rattle.std.specs.Prelude.{ℕ, List, Option, position}
+use Rattle.std.specs.List.{IsDistinct}
 use Rattle.std.specs.Map.{keys_of, lookup, remove_entry}
 use Rattle.indexmap.specs.IndexMap.{insert_entry}
 use Rattle.rp_base.specs.declared.plain.Plain.{Plain}
@@ -8,6 +9,10 @@ use Rattle.rp_base.specs.PlainValues.{equal_to}
 
 abbrev pub EntryList : Type 0
 EntryList = List (Plain × Value)
+
+-- no two keys are equal
+abbrev pub AreUnequal : EntryList → Type 0
+AreUnequal entries = IsDistinct equal_to (keys_of entries)
 
 -- the place of the key that equals this one
 abbrev pub entry_place : Plain → EntryList → Option ℕ

@@ -4,6 +4,9 @@
 mod cell;
 mod entries;
 mod key;
+mod names;
 
 pub use cell::{Binding, Cell, Method, Which};
 pub use entries::Entries;
+pub use key::Key;
+pub use names::find_binding;
