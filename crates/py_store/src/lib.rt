@@ -11,4 +11,4 @@ pub use cell::{Binding, Cell, Method, Which};
 pub use entries::Entries;
 pub use key::Key;
 pub use names::find_binding;
-pub use store::Store;
+pub use store::{Place, Store};
