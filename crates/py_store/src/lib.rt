@@ -4,6 +4,11 @@
 mod cell;
 mod entries;
 mod key;
+mod names;
+mod store;
 
 pub use cell::{Binding, Cell, Method, Which};
 pub use entries::Entries;
+pub use key::Key;
+pub use names::find_binding;
+pub use store::{Place, Store};
