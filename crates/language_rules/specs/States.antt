@@ -13,14 +13,21 @@ pub record Handling : Type 0 where
   pub raised : Raised
   pub bound : Bool
 
+-- A class that a class statement made: the text, the name and the cell.
+pub record MadeClass : Type 0 where
+  pub text : ℕ
+  pub name : List ℕ
+  pub number : ℕ
+
 -- cells: cell n is the n-th. printed: the number of bytes printed. texts: in the order in which they were begun, numbered from 0.
--- handled: the exceptions being handled, innermost first. printing: the lists and dicts whose printing is under way, innermost first. modules: as handed in, with their states.
+-- handled: the exceptions being handled, innermost first. classes: what class statements made, the newest first. printing: the lists and dicts whose printing is under way, innermost first. modules: as handed in, with their states.
 -- reads_script, reads_expression: the trees of the texts that are accepted, which never change.
 pub record State : Type 0 where
   pub cells : List Cell
   pub printed : ℕ
   pub texts : List Program
   pub handled : List Handling
+  pub classes : List MadeClass
   pub printing : List ℕ
   pub modules : List Module
   pub reads_script : List ℕ → Option Program
