@@ -33,7 +33,7 @@ made_class text name [] = None
 made_class text name (c ∷ cs) = if (c.text == text) && bytes_eq name c.name then Some c.number else made_class text name cs
 
 abbrev pub on_same : (ℕ → RuleTree) → Option Value → Option ℕ → RuleTree
-on_same f (Some (value.Own bound)) (Some made) = if bound == made then f made else Stop beyond.Base
+on_same f (Some (value.Own bound)) (Some made) = if bound == made then f bound else Stop beyond.Base
 on_same f _ _ = Stop beyond.Base
 
 -- the name of the base must stand now for the class that its own statement made

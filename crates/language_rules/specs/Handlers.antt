@@ -1,87 +1,86 @@
--- Raising and handling exceptions (Python Language Reference, "The raise statement", "The try statement").
-use Rattle.std.specs.Prelude.{ℕ, List, [], ◌∷◌, Option, Some, None, if◌then◌else◌}
-use Rattle.rp_base.specs.Values.{plains_of}
-use Rattle.rp_base.specs.declared.exceptions.Beyond.TheVariants as beyond
-use Rattle.rp_base.specs.declared.exceptions.ExcKind.{ExcKind}
+-- The exceptions that are being handled, and what the name of a handler stands for (Python Language Reference, "The try statement").
+use Rattle.std.specs.Prelude.{ℕ, ◌==◌, Bool, true, false, ◌&&◌, List, [], ◌∷◌, map, Option, Some, None, if◌then◌else◌}
+use Rattle.std.specs.Str.{bytes_eq}
+use Rattle.rp_base.specs.Values.{tuple_of}
 use Rattle.rp_base.specs.declared.exceptions.Raised.{Raised}
-use Rattle.rp_base.specs.declared.plain.Plain.{Plain}
-use Rattle.rp_base.specs.declared.value.Value.{Value}
-use Rattle.py_ast.specs.declared.name.Name.{Name}
-use Rattle.py_ast.specs.declared.statement.Statement.{Statement}
-use Rattle.py_ast.specs.declared.statement.Statement.TheVariants as statement
-use Rattle.side_trees.specs.Trees.{Return, Stop, bind}
-use Rattle.language_rules.specs.Codes.{Env, Completion, Gives, Raises}
-use Rattle.language_rules.specs.States.{Handling}
-use Rattle.language_rules.specs.Going.{RuleTree, nowhere, raises, looks, evaluates_all, too_heavy}
-use Rattle.language_rules.specs.Texts.{on_statement, executes_suite}
-use Rattle.language_rules.specs.Handled.{is_of, first_handling, handling, on_handled}
-use Rattle.language_rules.specs.Exceptions.{exception_named, catches}
+use Rattle.rp_base.specs.declared.plain.Plain.TheVariants as plain
+use Rattle.rp_base.specs.declared.value.Value.TheVariants as value
+use Rattle.py_plain.specs.Arithmetic.{limited}
+use Rattle.side_trees.specs.Trees.{Return, bind}
+use Rattle.language_rules.specs.Codes.{Env}
+use Rattle.language_rules.specs.States.{Handling, State}
+use Rattle.language_rules.specs.Going.{RuleTree, nowhere, looks, changes}
+use Rattle.language_rules.specs.Answers.{answers, tuple_answers}
+use Rattle.language_rules.specs.Texts.{has_name, text_at, handler_names_of}
+use Rattle.language_rules.specs.Names.{unbound_local, unbound_name}
+use Rattle.language_rules.specs.Exceptions.{exception_str, exception_repr}
 
--- ---- raise
+-- ---- the exceptions that are being handled
 
--- `raise` alone: the exception that is being handled
-abbrev pub raised_again : Option Handling → RuleTree
-raised_again None = nowhere
-raised_again (Some h) = Return (Raises h.raised)
+-- whether it is the same run of code that handles it: the same text, and the same scope
+abbrev pub is_of : Env → Handling → Bool
+is_of env h = (h.text == env.text) && (h.scope == env.scope)
 
-abbrev pub raise_again_rule : Env → RuleTree
-raise_again_rule env = looks (λ s. raised_again (first_handling (is_of env) s.handled))
+abbrev pub is_called : List ℕ → Option (List ℕ) → Bool
+is_called name None = false
+is_called name (Some other) = bytes_eq name other
 
--- `raise` of a class, or of a handler's name
-abbrev pub raise_by_name : Env → List ℕ → Option ExcKind → RuleTree
-raise_by_name env name (Some k) = raises k []
-raise_by_name env name None = on_handled env name (λ r. Return (Raises r))
+abbrev pub is_named : Env → List ℕ → Handling → Bool
+is_named env name h = is_of env h && is_called name h.name
 
-abbrev pub raise_name_rule : Env → List ℕ → RuleTree
-raise_name_rule env name = raise_by_name env name (exception_named name)
+abbrev pub first_handling : (Handling → Bool) → List Handling → Option Handling
+first_handling test [] = None
+first_handling test (h ∷ hs) = if test h then Some h else first_handling test hs
 
--- the arguments of an exception are plain values
-abbrev pub raise_plain : ExcKind → Option (List Plain) → RuleTree
-raise_plain k None = Stop beyond.Payload
-raise_plain k (Some ps) = raises k ps
+-- the handler around this one that has the same name leaves the name unbound behind it
+abbrev pub unbinds : Env → List ℕ → List Handling → List Handling
+unbinds env name [] = []
+unbinds env name (h ∷ hs) = if is_named env name h then record h { bound = false } ∷ hs else h ∷ unbinds env name hs
 
-abbrev pub raise_with : Option ExcKind → List Value → RuleTree
-raise_with None vs = nowhere
-raise_with (Some k) vs = if too_heavy vs then Stop beyond.Size else raise_plain k (plains_of vs)
+abbrev pub unbinds_behind : Env → Option (List ℕ) → List Handling → List Handling
+unbinds_behind env None hs = hs
+unbinds_behind env (Some name) hs = unbinds env name hs
 
--- `raise` of a class with arguments, whose size is judged first
-abbrev pub raise_call_rule : Env → List ℕ → List ℕ → RuleTree
-raise_call_rule env name arguments = evaluates_all env arguments (raise_with (exception_named name))
+-- without the innermost one
+abbrev pub without_first : List Handling → List Handling
+without_first [] = []
+without_first (h ∷ hs) = hs
 
--- ---- try
+abbrev pub entered : Env → Option (List ℕ) → Raised → State → State
+entered env name r s = record s { handled = record { text = env.text; scope = env.scope; name = name; raised = r; bound = true } ∷ s.handled }
 
-abbrev pub as_handler : (List Name → Option Name → ℕ → RuleTree) → Statement → RuleTree
-as_handler f (statement.Except kinds name body) = f kinds name body
-as_handler f _ = nowhere
+abbrev pub left : Env → Option (List ℕ) → State → State
+left env name s = record s { handled = unbinds_behind env name (without_first s.handled) }
 
-abbrev pub name_of : Option Name → Option (List ℕ)
-name_of None = None
-name_of (Some n) = Some n.text
+-- code that runs while the exception is being handled; it is left by any end
+abbrev pub handling : Env → Option (List ℕ) → Raised → RuleTree → RuleTree
+handling env name r t = changes (entered env name r) (bind t (λ a. changes (left env name) (Return a)))
 
--- the first handler that takes the exception runs; where none does, the exception goes on
-abbrev pub handles : Env → Raised → List ℕ → RuleTree
-handles env r [] = Return (Raises r)
-handles env r (n ∷ ns) =
-    on_statement env n (as_handler (λ kinds name body.
-    if catches kinds r.kind then handling env (name_of name) r (executes_suite env body) else handles env r ns))
+-- ---- the name of a handler
 
-abbrev pub on_raised : (Raised → RuleTree) → Completion → RuleTree
-on_raised f (Raises r) = f r
-on_raised f a = Return a
+-- whether a text uses the name after `as`: then it stands for an exception wherever it stands
+abbrev pub is_handler_name : State → Env → List ℕ → Bool
+is_handler_name s env name = has_name name (handler_names_of (text_at s env.text))
 
--- what has been under way goes on, where the suite of `finally` ends by itself; else its own end replaces it
-abbrev pub replaces : Completion → Completion → RuleTree
-replaces pending (Gives v) = Return pending
-replaces pending a = Return a
+-- the name after a handler inside has left it unbound: as a variable of a function, or as a global name
+abbrev pub unbound_handler : Option ℕ → List ℕ → RuleTree
+unbound_handler None name = unbound_name name
+unbound_handler (Some f) name = unbound_local name
 
--- the suite of `finally`, which any end comes through; an exception that is under way is being handled there
-abbrev pub finally_suite : Env → ℕ → Completion → RuleTree
-finally_suite env suite (Raises r) = bind (handling env None r (executes_suite env suite)) (replaces (Raises r))
-finally_suite env suite pending = bind (executes_suite env suite) (replaces pending)
+abbrev pub handled_or : Env → List ℕ → (Raised → RuleTree) → Option Handling → RuleTree
+handled_or env name f None = nowhere
+handled_or env name f (Some h) = if h.bound then f h.raised else unbound_handler env.function name
 
-abbrev pub finally_rule : Env → Option ℕ → Completion → RuleTree
-finally_rule env None pending = Return pending
-finally_rule env (Some suite) pending = finally_suite env suite pending
+-- the exception that the name stands for
+abbrev pub on_handled : Env → List ℕ → (Raised → RuleTree) → RuleTree
+on_handled env name f = looks (λ s. handled_or env name f (first_handling (is_named env name) s.handled))
 
-abbrev pub try_rule : Env → ℕ → List ℕ → Option ℕ → RuleTree
-try_rule env body handlers last = bind (bind (executes_suite env body) (on_raised (λ r. handles env r handlers))) (finally_rule env last)
+-- `str(e)`, `repr(e)` and `e.args`, behind the units of their nodes
+abbrev pub handled_str : Env → List ℕ → RuleTree
+handled_str env name = on_handled env name (λ r. answers (limited (plain.Text (exception_str r.kind r.args))))
+
+abbrev pub handled_repr : Env → List ℕ → RuleTree
+handled_repr env name = on_handled env name (λ r. answers (limited (plain.Text (exception_repr r.kind r.args))))
+
+abbrev pub handled_args : Env → List ℕ → RuleTree
+handled_args env name = on_handled env name (λ r. tuple_answers (tuple_of (map value.Plain r.args)))

@@ -14,7 +14,7 @@ use Rattle.language_rules.specs.Texts.{node_at, on_function, executes_suite}
 use Rattle.language_rules.specs.Truth.{on_truth}
 use Rattle.language_rules.specs.Names.{binds_name}
 use Rattle.language_rules.specs.Targets.{assigns, augmented_assignment_rule, delete_rule}
-use Rattle.language_rules.specs.Handlers.{raise_again_rule, raise_name_rule, raise_call_rule, try_rule}
+use Rattle.language_rules.specs.Raising.{raise_again_rule, raise_name_rule, raise_call_rule, try_rule}
 use Rattle.language_rules.specs.Beginnings.{while_begins, for_begins}
 use Rattle.language_rules.specs.Classes.{class_rule}
 
