@@ -1,0 +1,2 @@
+pub mod BoxLaw
+pub mod ExceptionLaw

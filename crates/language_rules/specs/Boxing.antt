@@ -96,3 +96,15 @@ part_of = gather Part part_step
 -- the value that a box stands for, as its reader sees it; none where it is no box
 abbrev pub unboxed : Plain → Option Value
 unboxed p = (part_of p).value
+
+-- ---- a value as the other side sees it
+
+abbrev pub crossed_step : (ℕ → IdPack) → Value-F Value → Value
+crossed_step ids (Value-F.Plain p) = value.Plain p
+crossed_step ids (Value-F.Tuple vs) = joined vs
+crossed_step ids (Value-F.Proxy id) = value.Own (own_number id)
+crossed_step ids (Value-F.Own n) = value.Proxy (ids n)
+
+-- an own cell is one of the other side's, by its identity, and the other way round
+unfoldable pub crossed : (ℕ → IdPack) → Value → Value
+crossed ids = gather_value Value (crossed_step ids)

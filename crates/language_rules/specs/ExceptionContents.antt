@@ -9,12 +9,7 @@ use Rattle.rp_base.specs.declared.plain.Plain.TheOpen.{Plain-F}
 use Rattle.rp_base.specs.declared.plain.Plain.TheVariants as plain
 use Rattle.rp_base.specs.Names.{exception_name}
 use Rattle.rp_base.specs.PlainValues.{look}
-
-abbrev pub exception_kinds : List ExcKind
-exception_kinds =
-    kind.Exception ∷ kind.ArithmeticError ∷ kind.ZeroDivisionError ∷ kind.OverflowError ∷ kind.AssertionError ∷ kind.AttributeError ∷ kind.EOFError
-    ∷ kind.ImportError ∷ kind.ModuleNotFoundError ∷ kind.LookupError ∷ kind.IndexError ∷ kind.KeyError ∷ kind.NameError ∷ kind.UnboundLocalError
-    ∷ kind.RuntimeError ∷ kind.NotImplementedError ∷ kind.StopIteration ∷ kind.TypeError ∷ kind.ValueError ∷ []
+use Rattle.language_rules.specs.Exceptions.{exception_named}
 
 -- the class and the arguments, with no attributes and no text
 abbrev pub four_parts : ExcKind → List Plain → Plain
@@ -31,16 +26,16 @@ abbrev pub exception_content : Raised → Plain
 exception_content r = content_of r.kind r.args
 
 -- the exception class of this name; one that is not known is an Exception
-abbrev pub kind_among : List ExcKind → List ℕ → ExcKind
-kind_among [] name = kind.Exception
-kind_among (k ∷ ks) name = if bytes_eq name (exception_name k) then k else kind_among ks name
+abbrev pub kind_or : Option ExcKind → ExcKind
+kind_or (Some k) = k
+kind_or None = kind.Exception
+
+abbrev pub class_in : List (Plain-F Plain) → ExcKind
+class_in (Plain-F.Text module_name ∷ Plain-F.Text name ∷ []) = if bytes_eq module_name (codes "builtins") then kind_or (exception_named name) else kind.Exception
+class_in _ = kind.Exception
 
 abbrev pub kind_in : Plain-F Plain → ExcKind
-kind_in (Plain-F.Tuple items) = named (map look items)
-  where
-    named : List (Plain-F Plain) → ExcKind
-    named (Plain-F.Text module_name ∷ Plain-F.Text name ∷ []) = if bytes_eq module_name (codes "builtins") then kind_among exception_kinds name else kind.Exception
-    named _ = kind.Exception
+kind_in (Plain-F.Tuple items) = class_in (map look items)
 kind_in _ = kind.Exception
 
 abbrev pub arguments_in : Plain-F Plain → List Plain

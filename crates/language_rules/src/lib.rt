@@ -1,2 +1,6 @@
 //! The rule book of the language: what each piece of code does at its side, clause by clause, in `specs/`.
 #![tactic(auto)]
+
+mod laws;
+
+pub use laws::{boxes_are_read, exceptions_are_read, one_heap_is_two_parts, one_interpreter_is_two_sides, sides_grow, two_sides_end_as_one};

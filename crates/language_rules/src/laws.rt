@@ -1,0 +1,41 @@
+ghost use Rattle.std.specs.Prelude.{◌≡◌, ℕ, Some};
+ghost use Rattle.rp_base.specs.declared.exceptions.Raised.{Raised};
+ghost use Rattle.rp_base.specs.declared.identity.IdPack.{IdPack};
+ghost use Rattle.rp_base.specs.declared.value.Value.{Value};
+ghost use Rattle.language_rules.specs.Boxing.{boxed, unboxed, crossed};
+ghost use Rattle.language_rules.specs.ExceptionContents.{exception_content, raised_in};
+ghost use Rattle.side_trees.specs.Growing.{Growth};
+ghost use Rattle.side_trees.specs.Joining.{OneIsTwo, OneHeap};
+ghost use Rattle.side_trees.specs.SharedUnits.{PairEndsAsOne};
+ghost use Rattle.language_rules.specs.Conversation.{script_language, one_heap};
+
+/// A side is a function of what it reads and begins, and grows with them.
+pub fn sides_grow()
+    ensures { Growth script_language }
+{}
+
+/// The one interpreter is two sides that exchange messages.
+pub fn one_interpreter_is_two_sides()
+    ensures { OneIsTwo script_language one_heap }
+{}
+
+/// A run over the one heap is a run over its two parts.
+pub fn one_heap_is_two_parts()
+    ensures { OneHeap script_language one_heap }
+{}
+
+/// Two sides that draw their units from one number end as the one interpreter does, whatever is read first.
+pub fn two_sides_end_as_one()
+    ensures { PairEndsAsOne script_language one_heap }
+{}
+
+/// What a side boxes, the other reads as the value that it sees: a cell of the sender by its identity, one of its own by
+/// its number.
+pub fn boxes_are_read()
+    ensures { (ids : ℕ → IdPack) (v : Value) → unboxed (boxed ids v) ≡ Some (crossed ids v) }
+{}
+
+/// What a side writes of an exception, the other reads as that exception.
+pub fn exceptions_are_read()
+    ensures { (r : Raised) → raised_in (exception_content r) ≡ r }
+{}
