@@ -1,5 +1,5 @@
 -- Answers of operations on plain values, and tuples that are made, as computations.
-use Rattle.std.specs.Prelude.{Result, Ok, Err}
+use Rattle.std.specs.Prelude.{ℕ, Result, Ok, Err}
 use Rattle.rp_base.specs.declared.ends.TupleEnd.{TupleEnd}
 use Rattle.rp_base.specs.declared.ends.TupleEnd.TheVariants as tuple_end
 use Rattle.rp_base.specs.declared.plain.Plain.{Plain}
@@ -7,9 +7,10 @@ use Rattle.rp_base.specs.declared.value.Value.{Value}
 use Rattle.rp_base.specs.declared.value.Value.TheVariants as value
 use Rattle.py_plain.specs.declared.ends.PlainEnd.{PlainEnd}
 use Rattle.py_plain.specs.declared.ends.PlainEnd.TheVariants as plain_end
-use Rattle.side_trees.specs.Trees.{Return, Stop}
-use Rattle.language_rules.specs.Codes.{Gives, Raises}
-use Rattle.language_rules.specs.Going.{RuleTree, nowhere}
+use Rattle.object_operations.specs.declared.operation.Operation.{Operation}
+use Rattle.side_trees.specs.Trees.{Return, Stop, Spend}
+use Rattle.language_rules.specs.Codes.{Env, Gives, Raises, Node, Give}
+use Rattle.language_rules.specs.Going.{RuleTree, nowhere, operates}
 
 -- On with what an operation on plain values gives: its exception is raised, and its end beyond the subset is one. A definition has memory.
 abbrev pub on_answer : {A : Type 0} → (A → RuleTree) → Result A PlainEnd → RuleTree
@@ -31,3 +32,15 @@ on_tuple f (Err tuple_end.NoMemory) = nowhere
 -- the tuple itself
 abbrev pub tuple_answers : Result Value TupleEnd → RuleTree
 tuple_answers = on_tuple (λ v. Return (Gives v))
+
+-- what a value gives that is there
+abbrev pub gives : Value → RuleTree
+gives v = Return (Gives v)
+
+-- an expression, and its end
+abbrev pub evaluated : Env → ℕ → RuleTree
+evaluated env n = Spend (Node env n) (λ a. Return a)
+
+-- an operation, and its end
+abbrev pub asked : Operation → RuleTree
+asked o = operates o (λ a. Give a) (λ a. Return a)
