@@ -1,0 +1,2 @@
+pub mod ExpressionExamples
+pub mod TextExamples

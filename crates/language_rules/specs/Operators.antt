@@ -1,5 +1,5 @@
 -- Operators (Python Language Reference, "Unary arithmetic and bitwise operations" to "Binary bitwise operations", and "Augmented assignment statements").
-use Rattle.std.specs.Prelude.{ℕ, Bool, true, false, ◌&&◌, ◌||◌, ℤ, List, [], ◌∷◌, ◌++◌, map, codes, is_some, Option, Some, None, Err, if◌then◌else◌}
+use Rattle.std.specs.Prelude.{Bool, true, false, ◌&&◌, ◌||◌, ℤ, List, [], ◌∷◌, ◌++◌, codes, is_some, Option, Some, None, if◌then◌else◌}
 use Rattle.std.specs.List.{repeat}
 use Rattle.rp_base.specs.declared.exceptions.Beyond.TheVariants as beyond
 use Rattle.rp_base.specs.declared.identity.Kind.{Kind}
@@ -8,20 +8,17 @@ use Rattle.rp_base.specs.declared.operators.BinaryOp.{BinaryOp}
 use Rattle.rp_base.specs.declared.operators.BinaryOp.TheVariants as op
 use Rattle.rp_base.specs.declared.operators.UnaryOp.{UnaryOp}
 use Rattle.rp_base.specs.declared.operators.UnaryOp.TheVariants as unary_op
-use Rattle.rp_base.specs.declared.plain.Plain.{Plain}
-use Rattle.rp_base.specs.declared.plain.Plain.TheOpen.{Plain-F}
 use Rattle.rp_base.specs.declared.plain.Plain.TheVariants as plain
 use Rattle.rp_base.specs.declared.value.Value.{Value}
-use Rattle.rp_base.specs.declared.value.Value.TheOpen.{Value-F}
 use Rattle.rp_base.specs.declared.value.Value.TheVariants as value
-use Rattle.rp_base.specs.PlainValues.{look}
-use Rattle.rp_base.specs.Values.{look_value, tuple_of}
+use Rattle.rp_base.specs.Values.{tuple_of}
 use Rattle.py_plain.specs.Arithmetic.{unary, binary, is_count, count_of}
 use Rattle.object_operations.specs.declared.operation.Operation.TheVariants as operation
 use Rattle.object_operations.specs.declared.special.Special.{Special}
 use Rattle.object_operations.specs.declared.special.Special.TheVariants as special
 use Rattle.side_trees.specs.Trees.{Stop}
 use Rattle.language_rules.specs.Answers.{answers, tuple_answers, asked}
+use Rattle.language_rules.specs.Comparing.{tuple_items}
 use Rattle.language_rules.specs.Going.{RuleTree, type_error}
 use Rattle.language_rules.specs.Kinds.{on_kind, is_reference}
 use Rattle.language_rules.specs.TextFunctions.{as_int}
@@ -44,19 +41,6 @@ unary_rule unary_op.Neg v = if is_reference v then asked (operation.Special v sp
 unary_rule _ v = unsupported
 
 -- ---- tuples in which references may stand
-
--- the items of a tuple
-abbrev pub plain_items : Plain-F Plain → Option (List Value)
-plain_items (Plain-F.Tuple ps) = Some (map value.Plain ps)
-plain_items _ = None
-
-abbrev pub items_at : Value-F Value → Option (List Value)
-items_at (Value-F.Plain p) = plain_items (look p)
-items_at (Value-F.Tuple vs) = Some vs
-items_at _ = None
-
-abbrev pub tuple_items : Value → Option (List Value)
-tuple_items v = items_at (look_value v)
 
 -- one tuple behind the other
 abbrev pub tuples_sum : Option (List Value) → Option (List Value) → RuleTree
