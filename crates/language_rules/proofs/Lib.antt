@@ -1,2 +1,4 @@
 pub mod BoxLaw
 pub mod ExceptionLaw
+pub mod ExpressionExamples
+pub mod TextExamples
