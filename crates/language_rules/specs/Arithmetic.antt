@@ -1,5 +1,5 @@
 -- Arithmetic methods of objects (Python Language Reference, "Emulating numeric types" and "Binary arithmetic operations").
-use Rattle.std.specs.Prelude.{ℕ, suc, ◌+◌, ◌*◌, Bool, true, false, nat_lt, ℤ, List, [], ◌∷◌, ◌++◌, length, Option, Some, None, pos, if◌then◌else◌}
+use Rattle.std.specs.Prelude.{ℕ, suc, ◌+◌, ◌*◌, nat_lt, ℤ, List, [], ◌∷◌, ◌++◌, length, Option, Some, None, pos, if◌then◌else◌}
 use Rattle.std.specs.List.{repeat}
 use Rattle.rp_base.specs.declared.exceptions.Beyond.TheVariants as beyond
 use Rattle.rp_base.specs.declared.identity.Kind.{Kind}

@@ -16,7 +16,7 @@ use Rattle.py_store.specs.Cells.{cell_of}
 use Rattle.side_trees.specs.Trees.{bind}
 use Rattle.language_rules.specs.Answers.{asked, tuple_answers}
 use Rattle.language_rules.specs.Attributes.{get_attribute}
-use Rattle.language_rules.specs.Going.{RuleTree, none, text, looks, reads_cell, on_value}
+use Rattle.language_rules.specs.Going.{RuleTree, looks, reads_cell, on_value}
 use Rattle.language_rules.specs.Kinds.{kind_of}
 use Rattle.language_rules.specs.States.{State}
 use Rattle.language_rules.specs.Texts.{has_name}

@@ -1,5 +1,5 @@
 -- `__iter__` and `__next__` (Python Language Reference, "Emulating container types"; Python Library Reference, "Iterator Types").
-use Rattle.std.specs.Prelude.{ℕ, ◌==◌, nat_lt, ℤ, List, [], ◌∷◌, slice_get, Option, Some, None, option_map, Result, Ok, if◌then◌else◌}
+use Rattle.std.specs.Prelude.{ℕ, ◌==◌, nat_lt, ℤ, List, [], ◌∷◌, slice_get, Option, Some, None, Result, Ok, if◌then◌else◌}
 use Rattle.rp_base.specs.declared.ends.TupleEnd.{TupleEnd}
 use Rattle.rp_base.specs.declared.exceptions.Beyond.TheVariants as beyond
 use Rattle.rp_base.specs.declared.exceptions.ExcKind.TheVariants as exception

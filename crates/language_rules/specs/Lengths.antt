@@ -1,5 +1,5 @@
 -- `__len__` and `__bool__` of objects (Python Language Reference, "Emulating container types" and "Basic customization"; Python Library Reference, "Truth Value Testing").
-use Rattle.std.specs.Prelude.{ℕ, ◌^◌, Bool, true, false, nat_lt, ℤ, pos, negsuc, [], length, codes, Option, Some, None, if◌then◌else◌}
+use Rattle.std.specs.Prelude.{ℕ, ◌^◌, true, nat_lt, ℤ, pos, negsuc, [], length, codes, Option, Some, None, if◌then◌else◌}
 use Rattle.rp_base.specs.declared.exceptions.Beyond.TheVariants as beyond
 use Rattle.rp_base.specs.declared.exceptions.ExcKind.TheVariants as exception
 use Rattle.rp_base.specs.declared.plain.Plain.TheVariants as plain

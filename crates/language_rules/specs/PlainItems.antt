@@ -1,5 +1,5 @@
 -- Items, length and `in` of any value (Python Language Reference, "Subscriptions" and "Membership test operations"). Of an object they are asked; of any other value they cost no unit.
-use Rattle.std.specs.Prelude.{ℕ, Bool, ℤ, List, [], ◌∷◌, ◌++◌, map, length, slice_get, codes, is_some, Option, Some, None, if◌then◌else◌}
+use Rattle.std.specs.Prelude.{ℕ, ℤ, List, [], ◌∷◌, ◌++◌, map, length, slice_get, codes, is_some, Option, Some, None, if◌then◌else◌}
 use Rattle.std.specs.Str.{chars}
 use Rattle.rp_base.specs.declared.exceptions.Beyond.TheVariants as beyond
 use Rattle.rp_base.specs.declared.exceptions.ExcKind.TheVariants as kind
