@@ -1,8 +1,10 @@
 pub mod BoxLaw
-pub mod Examples
+pub mod CollectionExamples
 pub mod ExceptionLaw
 pub mod ExpressionExamples
+pub mod PairExamples
 pub mod Showing
+pub mod SoloExamples
 pub mod TextExamples
 pub mod callback_a
 pub mod callback_b

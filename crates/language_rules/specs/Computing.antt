@@ -1,12 +1,15 @@
 -- The name that opens the recursions of this crate too: a worked example is `refl` under `unfolding rules_computing`.
 use Rattle.std.specs.Prelude.{ℕ}
 use Rattle.std.specs.Fmt.{digits}
+use Rattle.ucd_category.specs.GeneralCategory.{general_category}
+use Rattle.ucd_category.specs.GeneralCategoryRows.{general_category_rows}
+use Rattle.ucd_table.specs.Rows.{value_in}
 use Rattle.py_plain.specs.Computing.{plain_computing}
-use Rattle.language_rules.specs.Boxing.{boxed, part_of}
+use Rattle.language_rules.specs.Boxing.{boxed, part_of, crossed}
 use Rattle.language_rules.specs.Comparing.{plain_equals, equals_step}
 use Rattle.language_rules.specs.Printing.{repr_step}
 use Rattle.language_rules.specs.References.{identities_in_value}
 
 unfoldable pub rules_computing : ℕ
-unfolding plain_computing digits plain_equals equals_step repr_step boxed part_of identities_in_value
+unfolding plain_computing digits general_category general_category_rows value_in plain_equals equals_step repr_step boxed part_of crossed identities_in_value
 rules_computing = 0
