@@ -89,28 +89,36 @@ fn push_function(out: &mut String, function: &FunctionInfo) -> Result<(), AllocE
     write!(out, "; body = {body} }}")
 }
 
+fn push_functions(out: &mut String, functions: &[FunctionInfo]) -> Result<(), AllocError> {
+    if functions.is_empty() {
+        return out.push_str(" []");
+    }
+    for function in functions {
+        out.push_str("\n      ")?;
+        push_function(out, function)?;
+        out.push_str(" ∷")?;
+    }
+    out.push_str("\n      []")
+}
+
 /// The tree, a record with one node a line.
 fn push_program(out: &mut String, program: &Program) -> Result<(), AllocError> {
-    out.push_str("record {\n    nodes =\n")?;
+    out.push_str("record {\n  nodes =\n")?;
     for node in program.nodes.as_slice() {
         out.push_str("      ")?;
         push_node(out, node)?;
         out.push_str(" ∷\n")?;
     }
-    out.push_str("      [];\n    lines = ")?;
+    out.push_str("      [];\n  lines = ")?;
     push_numbers(out, program.lines.as_slice())?;
     let root = program.root;
-    write!(out, ";\n    root = {root};\n    functions =\n")?;
-    for function in program.functions.as_slice() {
-        out.push_str("      ")?;
-        push_function(out, function)?;
-        out.push_str(" ∷\n")?;
-    }
-    out.push_str("      [];\n    handler_names = ")?;
+    write!(out, ";\n  root = {root};\n  functions =")?;
+    push_functions(out, program.functions.as_slice())?;
+    out.push_str(";\n  handler_names = ")?;
     push_texts(out, program.handler_names.as_slice())?;
-    out.push_str(";\n    is_expression = ")?;
+    out.push_str(";\n  is_expression = ")?;
     push_bool(out, program.is_expression)?;
-    out.push_str("\n  }\n")
+    out.push_str(";\n}\n")
 }
 
 /// A whole file: what it uses, the script's text as a comment, and the definition of its tree.
@@ -144,5 +152,5 @@ pub fn push_file(
         push_comment(out, text)?;
     }
     write!(out, "abbrev pub {name} : Program\n{name} = ")?;
-    push_program(out, program)
+    out.push_str(tree.as_str())
 }

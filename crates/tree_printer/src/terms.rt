@@ -2,7 +2,7 @@ use py_ast::Name;
 use rp_base::{Plain, Text};
 use std::alloc::AllocError;
 
-/// A list, with each item as it is pushed.
+/// A list of numbers.
 pub fn push_numbers(out: &mut String, numbers: &[u32]) -> Result<(), AllocError> {
     if numbers.is_empty() {
         return out.push_str("[]");
