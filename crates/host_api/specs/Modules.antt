@@ -42,3 +42,7 @@ abbrev pub HasTakenAt : List Rule → ℕ → List ℕ → List Plain → HostAn
 HasTakenAt rules at func args given old new =
     (rule : Rule) (state : Plain) → slice_get rules at ≡ Some rule → slice_get old at ≡ Some state →
     (next : Plain) × (new ≡ slice_set old at next) × HasTaken rule state func args given next
+
+-- what the functions of a module of a list say of a name
+abbrev pub SaysAt : List (List ℕ → Bool) → ℕ → List ℕ → Bool → Type 0
+SaysAt functions at func said = (has : List ℕ → Bool) → slice_get functions at ≡ Some has → said ≡ has func
