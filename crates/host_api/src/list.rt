@@ -31,6 +31,7 @@ pub fn call_at(
 ) -> HostAnswer
     requires there { at < vec_len hosts.old }
     requires arguments { AreArguments args.now }
+    ensures size { vec_len hosts.new ≡ vec_len hosts.old }
     ensures rules { map (λ b. rule b) hosts.new.items ≡ map (λ b. rule b) hosts.old.items }
     ensures titles { map (λ b. title b) hosts.new.items ≡ map (λ b. title b) hosts.old.items }
     ensures functions { map (λ b. functions b) hosts.new.items ≡ map (λ b. functions b) hosts.old.items }

@@ -1,4 +1,4 @@
-ghost use Rattle.std.specs.Prelude.{◌≡◌, [], codes, length, pos, if◌then◌else◌};
+ghost use Rattle.std.specs.Prelude.{◌≡◌, ◌<◌, vec_len, [], codes, length, pos, if◌then◌else◌};
 ghost use Rattle.std.specs.Str.{bytes_eq};
 ghost use Rattle.rp_base.specs.declared.exceptions.ExcKind.TheVariants as kind;
 ghost use Rattle.rp_base.specs.declared.plain.Plain.TheVariants as plain;
@@ -15,7 +15,7 @@ use std::test::Fail;
 #[derive(Drop)]
 struct Tally {
     name: &'static str,
-    last: u32,
+    last: usize,
 }
 
 impl Host for Tally {
@@ -35,6 +35,7 @@ impl Host for Tally {
         func == "count"
     }
 
+    #[tactic(auto, using(crate::proofs::Limits::empty_within))]
     fn call(&mut self, alloc: Global, func: &str, args: &[Plain]) -> HostAnswer {
         if func != "count" {
             return HostAnswer::Raise(Raised {
@@ -43,61 +44,52 @@ impl Host for Tally {
             });
         }
         let last = self.last;
-        self.last = args.len() as u32;
-        HostAnswer::Value(Plain::Int(i128::from(last)))
+        self.last = args.len();
+        HostAnswer::Value(Plain::Int(last as i128))
     }
+}
+
+fn number_of(answer: HostAnswer) -> Option<i128> {
+    match answer {
+        HostAnswer::Value(Plain::Int(n)) => Some(n),
+        _ => None,
+    }
+}
+
+/// What a call without arguments answers, where it is an int.
+#[tactic(auto, using(crate::proofs::Limits::no_arguments))]
+fn ask(hosts: &mut Vec<Box<dyn Host>>, at: usize, alloc: Global, func: &str) -> Option<i128>
+    requires { at < vec_len hosts.old }
+    ensures { vec_len hosts.new ≡ vec_len hosts.old }
+{
+    number_of(call_at(hosts, at, alloc, func, &[]))
 }
 
 #[test]
 fn a_list_of_modules(rt: HostRuntime) -> Result<(), Fail> {
     let alloc = rt.alloc();
+    let first = Tally {
+        name: "first",
+        last: 5,
+    };
+    let second = Tally {
+        name: "second",
+        last: 7,
+    };
     let mut hosts: Vec<Box<dyn Host>> = Vec::new(alloc);
-    hosts.push(Box::new(
-        alloc,
-        Tally {
-            name: "first",
-            last: 0,
-        },
-    )?)?;
-    hosts.push(Box::new(
-        alloc,
-        Tally {
-            name: "second",
-            last: 7,
-        },
-    )?)?;
+    hosts.push(Box::new(alloc, first)?)?;
+    hosts.push(Box::new(alloc, second)?)?;
     assert_eq!(rt;
         (name_at(&hosts, 0), name_at(&hosts, 1)),
         ("first", "second")
     );
-    assert!(rt; has_at(&hosts, 1, "count") && !has_at(&hosts, 1, "first"));
-    let two = [Plain::None, Plain::Ellipsis];
-    assert!(rt;
-        matches!(
-            call_at(&mut hosts, 0, alloc, "count", &two),
-            HostAnswer::Value(Plain::Int(0))
-        )
+    assert_eq!(rt;
+        (has_at(&hosts, 1, "count"), has_at(&hosts, 1, "first")),
+        (true, false)
     );
-    assert!(rt;
-        matches!(
-            call_at(&mut hosts, 0, alloc, "count", &[]),
-            HostAnswer::Value(Plain::Int(2))
-        )
-    );
-    assert!(rt;
-        matches!(
-            call_at(&mut hosts, 1, alloc, "count", &[]),
-            HostAnswer::Value(Plain::Int(7))
-        )
-    );
-    assert!(rt;
-        matches!(
-            call_at(&mut hosts, 1, alloc, "last", &[]),
-            HostAnswer::Raise(Raised {
-                kind: ExcKind::TypeError,
-                ..
-            })
-        )
-    );
+    assert_eq!(rt; ask(&mut hosts, 0, alloc, "count"), Some(5));
+    assert_eq!(rt; ask(&mut hosts, 0, alloc, "count"), Some(0));
+    assert_eq!(rt; ask(&mut hosts, 1, alloc, "count"), Some(7));
+    assert_eq!(rt; ask(&mut hosts, 1, alloc, "last"), None);
     Ok(())
 }
