@@ -2,5 +2,9 @@
 #![tactic(auto)]
 
 mod host;
+mod list;
+#[cfg(test)]
+mod tests;
 
-pub use host::HostAnswer;
+pub use host::{Host, HostAnswer};
+pub use list::{call_at, has_at, name_at};
