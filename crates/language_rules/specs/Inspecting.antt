@@ -1,5 +1,6 @@
 -- What is asked of an object by its name (RPyC's module `protocol`, `_handle_callattr` and `_handle_inspect`).
 use Rattle.std.specs.Prelude.{ℕ, Bool, true, false, List, [], ◌∷◌, map, filter, flat_map, Option, Some, if◌then◌else◌}
+use Rattle.std.specs.Str.{bytes_eq}
 use Rattle.rp_base.specs.declared.identity.Kind.{Kind}
 use Rattle.rp_base.specs.declared.identity.Kind.TheVariants as kind
 use Rattle.rp_base.specs.declared.plain.Plain.TheVariants as plain
@@ -7,7 +8,8 @@ use Rattle.rp_base.specs.declared.value.Value.{Value}
 use Rattle.rp_base.specs.declared.value.Value.TheVariants as value
 use Rattle.rp_base.specs.Values.{tuple_of}
 use Rattle.object_operations.specs.declared.operation.Operation.TheVariants as operation
-use Rattle.object_operations.specs.Names.{method_name, list_methods, dict_methods, namespace_methods, root_methods}
+use Rattle.object_operations.specs.declared.special.Special.TheVariants as special
+use Rattle.object_operations.specs.Names.{special_name, method_name, list_methods, dict_methods, namespace_methods, root_methods}
 use Rattle.py_store.specs.declared.cell.Binding.{Binding}
 use Rattle.py_store.specs.declared.cell.Cell.{Cell}
 use Rattle.py_store.specs.declared.cell.Cell.TheVariants as cell
@@ -17,13 +19,24 @@ use Rattle.side_trees.specs.Trees.{bind}
 use Rattle.language_rules.specs.Answers.{asked, tuple_answers}
 use Rattle.language_rules.specs.Attributes.{get_attribute}
 use Rattle.language_rules.specs.Going.{RuleTree, looks, reads_cell, on_value}
-use Rattle.language_rules.specs.Kinds.{kind_of}
+use Rattle.language_rules.specs.Kinds.{kind_of, on_kind}
+use Rattle.language_rules.specs.Perform.{special_rule}
 use Rattle.language_rules.specs.States.{State}
 use Rattle.language_rules.specs.Texts.{has_name}
 
+-- whether it is `getmodule` of a root, which is an operation and no attribute
+abbrev pub is_root_operation : List ℕ → Option Kind → Bool
+is_root_operation name (Some kind.Root) = bytes_eq name (special_name special.GetModule)
+is_root_operation name _ = false
+
 -- an attribute and then its call: the attribute's unit is that of the request, and the call is an operation of its own
+abbrev pub attribute_then_call : Value → List ℕ → List Value → RuleTree
+attribute_then_call receiver name arguments = bind (get_attribute receiver name) (on_value (λ callee. asked (operation.Call callee arguments)))
+
+-- a call of an attribute that has no special name
 abbrev pub attribute_call_rule : Value → List ℕ → List Value → RuleTree
-attribute_call_rule receiver name arguments = bind (get_attribute receiver name) (on_value (λ callee. asked (operation.Call callee arguments)))
+attribute_call_rule receiver name arguments =
+    on_kind receiver (λ k. if is_root_operation name k then special_rule special.GetModule receiver arguments else attribute_then_call receiver name arguments)
 
 -- ---- the methods of an object
 
