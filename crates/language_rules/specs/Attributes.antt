@@ -23,6 +23,7 @@ use Rattle.side_trees.specs.Trees.{Return, Stop}
 use Rattle.language_rules.specs.Answers.{gives, asked}
 use Rattle.language_rules.specs.Going.{RuleTree, text, done, nowhere, fails, looks, reads_cell, sets_cell, gives_new, asks}
 use Rattle.language_rules.specs.Kinds.{kind_of}
+use Rattle.language_rules.specs.Names.{namespace_number}
 use Rattle.language_rules.specs.States.{State, cell_at}
 use Rattle.language_rules.specs.TextFunctions.{begins_with}
 
@@ -88,18 +89,14 @@ bound_method receiver None = Stop beyond.Attribute
 abbrev pub method_attribute : Value → List BuiltinMethod → List ℕ → RuleTree
 method_attribute receiver methods name = bound_method receiver (method_among methods name)
 
--- a side's first cell is its namespace, and its second its root
-abbrev pub first_cell : ℕ
-first_cell = 1
-
 abbrev pub gives_namespace : Cell → RuleTree
-gives_namespace (cell.Namespace names reserved) = gives (value.Own first_cell)
+gives_namespace (cell.Namespace names reserved) = gives (value.Own namespace_number)
 gives_namespace _ = nowhere
 
 -- of the root: the namespace, and its methods (RPyC's `SlaveService`)
 abbrev pub root_attribute : ℕ → List ℕ → RuleTree
 root_attribute n name =
-    if bytes_eq name (codes "namespace") then reads_cell first_cell gives_namespace
+    if bytes_eq name (codes "namespace") then reads_cell namespace_number gives_namespace
     else method_attribute (value.Own n) root_methods name
 
 -- of the connection: what its cell holds; `eval` and `execute` are asked of the root (RPyC's `Connection` and `SlaveService`)

@@ -14,15 +14,13 @@ use Rattle.py_store.specs.declared.cell.Cell.TheVariants as cell
 use Rattle.py_store.specs.EntryLists.{EntryList, entry_value, with_entry, without_entry}
 use Rattle.side_trees.specs.Trees.{Stop}
 use Rattle.language_rules.specs.Attributes.{is_private}
+use Rattle.language_rules.specs.Draining.{most_items}
 use Rattle.language_rules.specs.Going.{RuleTree, raises, sets_cell}
 use Rattle.language_rules.specs.Texts.{has_name}
 
 -- ---- limits
 
--- the greatest number of items of a list, and of entries of a dict
-abbrev pub most_items : ℕ
-most_items = 1048576
-
+-- a list has as many items as this, or a dict as many entries
 abbrev pub within_items : ℕ → RuleTree → RuleTree
 within_items n t = if nat_lt most_items n then Stop beyond.Size else t
 

@@ -19,13 +19,12 @@ use Rattle.py_store.specs.declared.cell.Which.TheVariants as view
 use Rattle.side_trees.specs.Trees.{Stop}
 use Rattle.language_rules.specs.Answers.{gives, on_tuple}
 use Rattle.language_rules.specs.Attributes.{calls_method, by_method}
+use Rattle.language_rules.specs.Draining.{items_at_hand, not_iterable}
 use Rattle.language_rules.specs.Entries.{one_more}
 use Rattle.language_rules.specs.Going.{RuleTree, nowhere, raises, reads_cell, sets_cell, gives_new}
 use Rattle.language_rules.specs.Kinds.{on_kind}
 use Rattle.language_rules.specs.Lengths.{wrong_result}
-use Rattle.language_rules.specs.PlainItems.{not_iterable}
 use Rattle.language_rules.specs.Ranges.{range_length, range_item}
-use Rattle.language_rules.specs.Sequences.{sequence_items}
 
 -- ---- an iterator over a collection
 
@@ -64,7 +63,7 @@ starts_sequence v (Some items) = starts 0 v
 starts_sequence v None = not_iterable
 
 abbrev pub iter_plain_rule : Value → RuleTree
-iter_plain_rule v = starts_sequence v (sequence_items v)
+iter_plain_rule v = starts_sequence v (items_at_hand v)
 
 -- ---- the next item
 
@@ -109,7 +108,7 @@ next_of_sequence n source at shape None = nowhere
 
 abbrev pub next_of : ℕ → ℕ → ℕ → Value → RuleTree
 next_of n at shape (value.Own source) = reads_cell source (next_of_cell n (value.Own source) at shape)
-next_of n at shape source = next_of_sequence n source at shape (sequence_items source)
+next_of n at shape source = next_of_sequence n source at shape (items_at_hand source)
 
 -- `__next__`
 abbrev pub next_rule : ℕ → Cell → RuleTree
