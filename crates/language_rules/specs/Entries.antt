@@ -1,5 +1,5 @@
 -- The keys of dicts and of a namespace (Python Language Reference, "Mappings"; Python Library Reference, "Mapping Types").
-use Rattle.std.specs.Prelude.{ℕ, suc, ◌-◌, ◌^◌, min, Bool, false, ◌||◌, nat_lt, List, [], ◌∷◌, length, codes, is_some, Option, Some, None, if◌then◌else◌}
+use Rattle.std.specs.Prelude.{ℕ, suc, ◌-◌, ◌^◌, min, Bool, ◌||◌, nat_lt, List, [], ◌∷◌, length, codes, is_some, Option, Some, None, if◌then◌else◌}
 use Rattle.std.specs.Str.{bytes_eq}
 use Rattle.rp_base.specs.declared.exceptions.Beyond.TheVariants as beyond
 use Rattle.rp_base.specs.declared.exceptions.ExcKind.TheVariants as exception
