@@ -47,8 +47,8 @@ five = record {
   lines = [];
   root = 0;
   functions = record { name = codes "<lambda>"; parameters = []; locals = []; free = []; has_inner = false; parent = None; body = 0 }
-    ∷ record { name = codes "<lambda>"; parameters = record { text = codes "self"; line = 1 } ∷ []; locals = codes "self" ∷ []; free = []; has_inner = false; parent = None; body = 0 }
-    ∷ [];
+      ∷ record { name = codes "<lambda>"; parameters = record { text = codes "self"; line = 1 } ∷ []; locals = codes "self" ∷ []; free = []; has_inner = false; parent = None; body = 0 }
+      ∷ [];
   handler_names = [];
   is_expression = true;
 }

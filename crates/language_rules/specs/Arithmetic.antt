@@ -51,6 +51,7 @@ adds_list list other _ = unsupported
 
 -- ---- copies of a list's items
 
+-- `list * n`: the count is judged first, then the number of items
 abbrev pub multiplies : List Value → Option ℤ → RuleTree
 multiplies items (Some z) =
     if is_count z then within_items (length items * count_of z) (gives_new (cell.List (repeat (count_of z) items)))
@@ -64,6 +65,7 @@ abbrev pub gives_result : Value → RuleTree
 gives_result (value.Plain plain.NotImpl) = unsupported
 gives_result v = gives v
 
+-- the method of this operator is called with the other operand
 abbrev pub calls_operator : ℕ → Special → Value → RuleTree → RuleTree
 calls_operator n operator x missing = calls_method n (special_name operator) (x ∷ []) gives_result missing
 
@@ -74,6 +76,7 @@ abbrev pub less_view : Option Kind → RuleTree
 less_view (Some kind.View) = Stop beyond.Operator
 less_view _ = unsupported
 
+-- an instance may be gone over by `__iter__` or by `__getitem__`
 abbrev pub less_instance : ℕ → Option Kind → RuleTree
 less_instance n (Some kind.View) = by_method n (special_name special.Iter) (Stop beyond.Operator) (by_method n (special_name special.GetItem) (Stop beyond.Operator) unsupported)
 less_instance n _ = unsupported

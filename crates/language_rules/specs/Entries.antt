@@ -43,6 +43,7 @@ abbrev pub puts_by : ℕ → EntryList → ℕ → Plain → Value → RuleTree 
 puts_by n entries shape key v t (Some old) = sets_cell n (cell.Dict (with_entry key v entries) shape) t
 puts_by n entries shape key v t None = within_items (suc (length entries)) (sets_cell n (cell.Dict (with_entry key v entries) (one_more shape)) t)
 
+-- the same, by what the dict has
 abbrev pub puts_entry : ℕ → EntryList → ℕ → Plain → Value → RuleTree → RuleTree
 puts_entry n entries shape key v t = puts_by n entries shape key v t (entry_value key entries)
 

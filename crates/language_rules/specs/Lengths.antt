@@ -28,6 +28,7 @@ wrong_result = type_error (codes "wrong result kind")
 abbrev pub within_lengths : ℕ → (ℕ → RuleTree) → RuleTree
 within_lengths n f = if nat_lt n (2 ^ 63) then f n else Stop beyond.Int
 
+-- a length as an int
 abbrev pub gives_length : ℕ → RuleTree
 gives_length n = within_lengths n (λ m. gives (number m))
 
@@ -37,6 +38,7 @@ on_counted f (Some (pos n)) = within_lengths n f
 on_counted f (Some (negsuc n)) = fails exception.ValueError (codes "negative length")
 on_counted f None = wrong_result
 
+-- the same, by the value that the method gave
 abbrev pub on_length : (ℕ → RuleTree) → Value → RuleTree
 on_length f v = on_counted f (as_int v)
 
@@ -69,6 +71,6 @@ truth_rule n (cell.View dict which) = reads_dict dict (λ entries shape. gives_f
 truth_rule n (cell.Range start stop step) = gives_filled (range_length start stop step)
 truth_rule n (cell.Instance class_no attributes) =
     calls_method n (special_name special.Bool) [] gives_truth
-        (calls_method n (special_name special.Len) [] (on_length gives_filled) (gives (boolean true)))
+    (calls_method n (special_name special.Len) [] (on_length gives_filled) (gives (boolean true)))
 truth_rule n (cell.Namespace names reserved) = Stop beyond.Namespace
 truth_rule n _ = gives (boolean true)

@@ -34,6 +34,7 @@ abbrev pub nearest_place : ℕ → ℤ → ℕ
 nearest_place size (pos k) = min k size
 nearest_place size (negsuc k) = size - suc k
 
+-- `insert`: a list of one item more is within the limit
 abbrev pub inserts : ℕ → List Value → Value → ℤ → RuleTree
 inserts n items x z = within_items (suc (length items)) (becomes n (insert items (nearest_place (length items) z) x))
 
@@ -42,16 +43,19 @@ abbrev pub takes_out : ℕ → List Value → ℕ → Option Value → RuleTree
 takes_out n items k (Some v) = sets_cell n (cell.List (remove items k)) (gives v)
 takes_out n items k None = nowhere
 
+-- `pop` at a place that the list has
 abbrev pub pops_place : ℕ → List Value → Option ℕ → RuleTree
 pops_place n items (Some k) = takes_out n items k (slice_get items k)
 pops_place n items None = out_of_range (codes "list")
 
+-- `pop`: an empty list has nothing to take out
 abbrev pub pops : ℕ → List Value → ℤ → RuleTree
 pops n [] z = fails exception.IndexError (codes "pop from empty list")
 pops n items z = pops_place n items (place_among (length items) z)
 
 -- ---- searching
 
+-- a search found nothing
 abbrev pub not_in_list : RuleTree
 not_in_list = fails exception.ValueError (codes "not in list")
 
@@ -62,6 +66,7 @@ on_place f _ = not_in_list
 
 -- ---- the methods, with the list's items as they are at the call; what `remove` found is taken out of the list as it is then
 
+-- by the method and the number of its arguments
 abbrev pub list_method : ℕ → List Value → BuiltinMethod → List Value → RuleTree
 list_method n items method.Append (x ∷ []) = within_items (suc (length items)) (becomes n (items ++ (x ∷ [])))
 list_method n items method.Clear [] = becomes n []

@@ -19,9 +19,11 @@ use Rattle.language_rules.specs.TextFunctions.{least_place, as_int, place_among}
 
 -- ---- exceptions, and ints
 
+-- an index that names no item of a value of this name
 abbrev pub out_of_range : List ℕ → RuleTree
 out_of_range name = fails kind.IndexError (name ++ codes " index out of range")
 
+-- what has no items, and what has no length
 abbrev pub no_items : RuleTree
 no_items = type_error (codes "no items")
 
@@ -44,6 +46,7 @@ abbrev pub item_at : List Value → Option ℕ → Option Value
 item_at items (Some k) = slice_get items k
 item_at items None = None
 
+-- the item, where there is one
 abbrev pub gives_item : List ℕ → Option Value → RuleTree
 gives_item name (Some v) = gives v
 gives_item name None = out_of_range name
