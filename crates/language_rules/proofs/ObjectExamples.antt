@@ -53,11 +53,15 @@ five = record {
   is_expression = true;
 }
 
+-- NotImplemented, as the body of the same functions
+abbrev nothing : Program
+nothing = record five { nodes = node.Expression (expression.Constant plain.NotImpl) ∷ [] }
+
 abbrev reads_five : List ℕ → Option Program
 reads_five t = if bytes_eq t (codes "5") then Some five else None
 
 abbrev start : List Cell → State
-start cells = record { cells = cells; printed = 0; texts = five ∷ []; handled = []; classes = []; printing = []; modules = counter ∷ []; reads_script = λ t. None; reads_expression = reads_five }
+start cells = record { cells = cells; printed = 0; texts = five ∷ nothing ∷ []; handled = []; classes = []; printing = []; modules = counter ∷ []; reads_script = λ t. None; reads_expression = reads_five }
 
 abbrev EndedRule : Type 0
 EndedRule = Ended Code State Operation Completion Beyond (List ℕ) (List ℕ)
@@ -293,6 +297,40 @@ shown name = plain.Tuple (plain.Text name ∷ plain.None ∷ [])
 inspects : ended (ends classes (Spend (Inspect 6) (λ a. Return a))) ≡ gives (value.Plain (plain.Tuple (shown (codes "f") ∷ shown (codes "__len__") ∷ shown (codes "put") ∷ []))) 1
 unfolding rules_computing
 inspects = refl
+
+-- 6 is an instance of 5, whose methods are functions 3, which gives 5, and 4, which gives NotImplemented
+abbrev methods : List ℕ → ℕ → List Cell
+methods name function = cell.Namespace [] [] ∷ cell.Root ∷ cell.Function 0 1 1 ∷ cell.Function 1 1 1 ∷ cell.Class (codes "C") None (record { name = name; value = own function } ∷ []) ∷ cell.Instance 5 [] ∷ []
+
+init_gives : ended (ends (methods (codes "__init__") 3) (asked (operation.Call (own 5) []))) ≡ fails exception.TypeError (codes "wrong result kind") 3
+unfolding rules_computing
+init_gives = refl
+
+iter_gives : ended (ends (methods (codes "__iter__") 3) (special_call special.Iter 6 [])) ≡ fails exception.TypeError (codes "wrong result kind") 3
+unfolding rules_computing
+iter_gives = refl
+
+bool_gives : ended (ends (methods (codes "__bool__") 3) (special_call special.Bool 6 [])) ≡ fails exception.TypeError (codes "wrong result kind") 3
+unfolding rules_computing
+bool_gives = refl
+
+would_drain : out_of_subset (ends (methods (codes "__iter__") 3) (special_call special.Contains 6 (number 1 ∷ []))) ≡ Some beyond.Drain
+unfolding rules_computing
+would_drain = refl
+
+would_index : out_of_subset (ends (methods (codes "__getitem__") 3) (special_call special.Iter 6 [])) ≡ Some beyond.Drain
+unfolding rules_computing
+would_index = refl
+
+-- NotImplemented is an answer of `__neg__`
+negates : ended (ends (methods (codes "__neg__") 4) (special_call special.Neg 6 [])) ≡ gives (value.Plain plain.NotImpl) 3
+unfolding rules_computing
+negates = refl
+
+-- this class has a method with one parameter too few
+too_few : ended (ends (methods (codes "__add__") 4) (special_call special.Add 6 (number 1 ∷ []))) ≡ fails exception.TypeError (codes "wrong number of arguments") 2
+unfolding rules_computing
+too_few = refl
 
 -- ---- texts, byte strings and tuples: the text has two characters in three bytes
 
