@@ -2,6 +2,7 @@ pub mod BoxLaw
 pub mod CollectionExamples
 pub mod ExceptionLaw
 pub mod ExpressionExamples
+pub mod ObjectExamples
 pub mod PairExamples
 pub mod ServiceExamples
 pub mod Showing

@@ -20,10 +20,11 @@ use Rattle.language_rules.specs.Attributes.{calls_method, by_method}
 use Rattle.language_rules.specs.Codes.{Completion, AddItem}
 use Rattle.language_rules.specs.Draining.{drains}
 use Rattle.language_rules.specs.Entries.{within_items}
-use Rattle.language_rules.specs.Going.{RuleTree, nowhere, reads_cell, sets_cell, gives_new, on_value, operates, asks}
+use Rattle.language_rules.specs.Going.{RuleTree, nowhere, sets_cell, gives_new, on_value, operates, asks}
 use Rattle.language_rules.specs.Kinds.{on_kind}
 use Rattle.language_rules.specs.Operators.{unsupported}
-use Rattle.language_rules.specs.Sequences.{number}
+use Rattle.language_rules.specs.PlainItems.{number}
+use Rattle.language_rules.specs.Searching.{reads_list}
 use Rattle.language_rules.specs.TextFunctions.{as_int}
 
 -- ---- a list and another list
@@ -39,12 +40,8 @@ abbrev pub add_item_rule : Value → ℕ → ℕ → List Value → Completion �
 add_item_rule other n i made a = on_value (λ item. adds_from other n (suc i) (made ++ (item ∷ []))) a
 
 -- the length of both is judged, and the list's own items are taken, when the other's length is known
-abbrev pub adds_items : Value → ℕ → Cell → RuleTree
-adds_items other n (cell.List items) = within_items (length items + n) (adds_from other n 0 items)
-adds_items other n _ = nowhere
-
 abbrev pub adds_length : ℕ → Value → Value → RuleTree
-adds_length list other (value.Plain (plain.Int (pos n))) = reads_cell list (adds_items other n)
+adds_length list other (value.Plain (plain.Int (pos n))) = reads_list list (λ items. within_items (length items + n) (adds_from other n 0 items))
 adds_length list other _ = nowhere
 
 -- `list + other`
@@ -54,6 +51,7 @@ adds_list list other _ = unsupported
 
 -- ---- copies of a list's items
 
+-- `list * n`: the count is judged first, then the number of items
 abbrev pub multiplies : List Value → Option ℤ → RuleTree
 multiplies items (Some z) =
     if is_count z then within_items (length items * count_of z) (gives_new (cell.List (repeat (count_of z) items)))
@@ -67,6 +65,7 @@ abbrev pub gives_result : Value → RuleTree
 gives_result (value.Plain plain.NotImpl) = unsupported
 gives_result v = gives v
 
+-- the method of this operator is called with the other operand
 abbrev pub calls_operator : ℕ → Special → Value → RuleTree → RuleTree
 calls_operator n operator x missing = calls_method n (special_name operator) (x ∷ []) gives_result missing
 
@@ -77,6 +76,7 @@ abbrev pub less_view : Option Kind → RuleTree
 less_view (Some kind.View) = Stop beyond.Operator
 less_view _ = unsupported
 
+-- an instance may be gone over by `__iter__` or by `__getitem__`
 abbrev pub less_instance : ℕ → Option Kind → RuleTree
 less_instance n (Some kind.View) = by_method n (special_name special.Iter) (Stop beyond.Operator) (by_method n (special_name special.GetItem) (Stop beyond.Operator) unsupported)
 less_instance n _ = unsupported
@@ -116,14 +116,9 @@ abbrev pub negate_rule : ℕ → Cell → RuleTree
 negate_rule n (cell.Instance class_no attributes) = calls_method n (special_name special.Neg) [] gives unsupported
 negate_rule n _ = unsupported
 
--- a list with more items behind its own
-abbrev pub extends_cell : ℕ → List Value → RuleTree → Cell → RuleTree
-extends_cell n more t (cell.List items) = within_items (length items + length more) (sets_cell n (cell.List (items ++ more)) t)
-extends_cell n more t _ = nowhere
-
--- the items of x are all there before the list gets them
+-- a list gets more items behind its own; they are all there before
 abbrev pub extends : ℕ → Value → RuleTree → RuleTree
-extends n x t = drains x (λ more. reads_cell n (extends_cell n more t))
+extends n x t = drains x (λ more. reads_list n (λ items. within_items (length items + length more) (sets_cell n (cell.List (items ++ more)) t)))
 
 -- `__iadd__` of a list: the list itself, with more items
 abbrev pub extend_rule : ℕ → Value → Cell → RuleTree

@@ -23,6 +23,7 @@ use Rattle.side_trees.specs.Trees.{Return, Stop}
 use Rattle.language_rules.specs.Answers.{gives, asked}
 use Rattle.language_rules.specs.Going.{RuleTree, text, done, nowhere, fails, looks, reads_cell, sets_cell, gives_new, asks}
 use Rattle.language_rules.specs.Kinds.{kind_of}
+use Rattle.language_rules.specs.Names.{namespace_number}
 use Rattle.language_rules.specs.States.{State, cell_at}
 use Rattle.language_rules.specs.TextFunctions.{begins_with}
 
@@ -85,21 +86,19 @@ abbrev pub bound_method : Value → Option BuiltinMethod → RuleTree
 bound_method receiver (Some m) = gives_new (cell.Bound receiver (method.Builtin m))
 bound_method receiver None = Stop beyond.Attribute
 
+-- the method of this name among those of a kind
 abbrev pub method_attribute : Value → List BuiltinMethod → List ℕ → RuleTree
 method_attribute receiver methods name = bound_method receiver (method_among methods name)
 
--- a side's first cell is its namespace, and its second its root
-abbrev pub first_cell : ℕ
-first_cell = 1
-
+-- the namespace, which is a side's first cell
 abbrev pub gives_namespace : Cell → RuleTree
-gives_namespace (cell.Namespace names reserved) = gives (value.Own first_cell)
+gives_namespace (cell.Namespace names reserved) = gives (value.Own namespace_number)
 gives_namespace _ = nowhere
 
 -- of the root: the namespace, and its methods (RPyC's `SlaveService`)
 abbrev pub root_attribute : ℕ → List ℕ → RuleTree
 root_attribute n name =
-    if bytes_eq name (codes "namespace") then reads_cell first_cell gives_namespace
+    if bytes_eq name (codes "namespace") then reads_cell namespace_number gives_namespace
     else method_attribute (value.Own n) root_methods name
 
 -- of the connection: what its cell holds; `eval` and `execute` are asked of the root (RPyC's `Connection` and `SlaveService`)
@@ -141,11 +140,13 @@ get_attribute v name = if is_private name then no_attribute name else attribute_
 
 -- ---- writing and deleting ("Assignment statements", "The del statement"): own attributes of instances and classes
 
+-- an instance or a class gets an attribute of its own
 abbrev pub sets_in_cell : ℕ → List ℕ → Value → Cell → RuleTree
 sets_in_cell n name v (cell.Instance class_no attributes) = sets_cell n (cell.Instance class_no (with_binding name v attributes)) (Return done)
 sets_in_cell n name v (cell.Class class_name base attributes) = sets_cell n (cell.Class class_name base (with_binding name v attributes)) (Return done)
 sets_in_cell n name v _ = Stop beyond.Attribute
 
+-- no value but an object has attributes to set
 abbrev pub sets_in : Value → List ℕ → Value → RuleTree
 sets_in (value.Own n) name v = reads_cell n (sets_in_cell n name v)
 sets_in _ name v = Stop beyond.Attribute
@@ -158,11 +159,13 @@ set_attribute receiver name v = if is_private name then no_attribute name else s
 abbrev pub where_bound : List ℕ → List Binding → RuleTree → RuleTree
 where_bound name attributes t = if is_some (bound_value name attributes) then t else no_attribute name
 
+-- an instance or a class loses an attribute of its own
 abbrev pub deletes_in_cell : ℕ → List ℕ → Cell → RuleTree
 deletes_in_cell n name (cell.Instance class_no attributes) = where_bound name attributes (sets_cell n (cell.Instance class_no (without_binding name attributes)) (Return done))
 deletes_in_cell n name (cell.Class class_name base attributes) = where_bound name attributes (sets_cell n (cell.Class class_name base (without_binding name attributes)) (Return done))
 deletes_in_cell n name _ = Stop beyond.Attribute
 
+-- no value but an object has attributes to delete
 abbrev pub deletes_in : Value → List ℕ → RuleTree
 deletes_in (value.Own n) name = reads_cell n (deletes_in_cell n name)
 deletes_in _ name = Stop beyond.Attribute

@@ -29,11 +29,13 @@ use Rattle.language_rules.specs.RootMethods.{root_method}
 use Rattle.language_rules.specs.States.{State}
 use Rattle.language_rules.specs.TextMethods.{text_method}
 
+-- what is no function, method or class
 abbrev pub not_callable : RuleTree
 not_callable = type_error (codes "not callable")
 
 -- ---- methods of builtin kinds ("Built-in methods")
 
+-- by the kind of the object
 abbrev pub method_of_cell : ℕ → BuiltinMethod → List Value → Cell → RuleTree
 method_of_cell n m arguments (cell.List items) = list_method n items m arguments
 method_of_cell n m arguments (cell.Dict entries shape) = dict_method n entries shape m arguments
@@ -65,6 +67,7 @@ initialises i arguments (Some callee) = asks (operation.Call callee (value.Own i
 initialises i [] None = gives (value.Own i)
 initialises i arguments None = type_error (codes "wrong number of arguments")
 
+-- `C(arguments)`: the instance is made first
 abbrev pub makes_instance : ℕ → List Value → RuleTree
 makes_instance class_no arguments = makes (cell.Instance class_no []) (λ i. looks (λ s. initialises i arguments (class_method s i (codes "__init__"))))
 
@@ -84,6 +87,7 @@ with_module host m s = record s { modules = slice_set s.modules host m }
 abbrev pub answers_host : ℕ → Module → HostAnswer × Plain → RuleTree
 answers_host host m answered = changes (with_module host (record m { state = answered.1 })) (gives_answer answered.0)
 
+-- by the module's state as it is
 abbrev pub runs_host : ℕ → List ℕ → List Plain → Option Module → RuleTree
 runs_host host name arguments (Some m) = answers_host host m (m.rule m.state name arguments)
 runs_host host name arguments None = nowhere
@@ -95,6 +99,7 @@ calls_host host name None = Stop beyond.Payload
 
 -- ---- calls
 
+-- by the kind of the callee
 abbrev pub calls_cell : ℕ → List Value → Cell → RuleTree
 calls_cell n arguments (cell.Function text function scope) = calls_function text function scope arguments
 calls_cell n arguments (cell.Bound receiver target) = calls_bound receiver arguments target

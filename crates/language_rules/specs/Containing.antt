@@ -15,9 +15,9 @@ use Rattle.py_store.specs.EntryLists.{EntryList, entry_value}
 use Rattle.side_trees.specs.Trees.{Stop, bind}
 use Rattle.language_rules.specs.Answers.{gives}
 use Rattle.language_rules.specs.Attributes.{calls_method, by_method}
+use Rattle.language_rules.specs.Draining.{not_iterable}
 use Rattle.language_rules.specs.Entries.{on_key, on_name}
 use Rattle.language_rules.specs.Going.{RuleTree, boolean, nowhere, reads_cell, on_value}
-use Rattle.language_rules.specs.PlainItems.{not_iterable}
 use Rattle.language_rules.specs.Ranges.{range_has}
 use Rattle.language_rules.specs.Searching.{searches_list, searches_values}
 use Rattle.language_rules.specs.TextFunctions.{as_int}

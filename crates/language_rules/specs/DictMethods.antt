@@ -32,6 +32,7 @@ clears n entries shape = sets_cell n (cell.Dict [] (one_more shape)) (Return don
 
 -- ---- the methods, with the dict's entries as they are at the call
 
+-- by the method and the number of its arguments
 abbrev pub dict_method : ℕ → EntryList → ℕ → BuiltinMethod → List Value → RuleTree
 dict_method n entries shape method.Clear [] = clears n entries shape
 dict_method n entries shape method.Get (key ∷ []) = on_key (gets_entry entries none) key

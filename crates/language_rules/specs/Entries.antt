@@ -1,28 +1,25 @@
 -- The keys of dicts and of a namespace (Python Language Reference, "Mappings"; Python Library Reference, "Mapping Types").
-use Rattle.std.specs.Prelude.{ℕ, suc, ◌-◌, ◌^◌, min, Bool, false, ◌||◌, nat_lt, List, [], ◌∷◌, length, codes, is_some, Option, Some, None, if◌then◌else◌}
+use Rattle.std.specs.Prelude.{ℕ, suc, ◌-◌, ◌^◌, min, Bool, ◌||◌, nat_lt, List, [], ◌∷◌, length, codes, is_some, Option, Some, None, if◌then◌else◌}
 use Rattle.std.specs.Str.{bytes_eq}
 use Rattle.rp_base.specs.declared.exceptions.Beyond.TheVariants as beyond
-use Rattle.rp_base.specs.declared.exceptions.ExcKind.{ExcKind}
 use Rattle.rp_base.specs.declared.exceptions.ExcKind.TheVariants as exception
 use Rattle.rp_base.specs.declared.plain.Plain.{Plain}
 use Rattle.rp_base.specs.declared.plain.Plain.TheVariants as plain
 use Rattle.rp_base.specs.declared.value.Value.{Value}
 use Rattle.rp_base.specs.declared.value.Value.TheVariants as value
-use Rattle.rp_base.specs.Names.{exception_name}
 use Rattle.py_ast.specs.Builtins.{builtins, first_named}
 use Rattle.py_store.specs.declared.cell.Cell.TheVariants as cell
 use Rattle.py_store.specs.EntryLists.{EntryList, entry_value, with_entry, without_entry}
 use Rattle.side_trees.specs.Trees.{Stop}
 use Rattle.language_rules.specs.Attributes.{is_private}
+use Rattle.language_rules.specs.Draining.{most_items}
+use Rattle.language_rules.specs.Exceptions.{exception_named}
 use Rattle.language_rules.specs.Going.{RuleTree, raises, sets_cell}
 use Rattle.language_rules.specs.Texts.{has_name}
 
 -- ---- limits
 
--- the greatest number of items of a list, and of entries of a dict
-abbrev pub most_items : ℕ
-most_items = 1048576
-
+-- a list has as many items as this, or a dict as many entries
 abbrev pub within_items : ℕ → RuleTree → RuleTree
 within_items n t = if nat_lt most_items n then Stop beyond.Size else t
 
@@ -46,6 +43,7 @@ abbrev pub puts_by : ℕ → EntryList → ℕ → Plain → Value → RuleTree 
 puts_by n entries shape key v t (Some old) = sets_cell n (cell.Dict (with_entry key v entries) shape) t
 puts_by n entries shape key v t None = within_items (suc (length entries)) (sets_cell n (cell.Dict (with_entry key v entries) (one_more shape)) t)
 
+-- the same, by what the dict has
 abbrev pub puts_entry : ℕ → EntryList → ℕ → Plain → Value → RuleTree → RuleTree
 puts_entry n entries shape key v t = puts_by n entries shape key v t (entry_value key entries)
 
@@ -65,13 +63,6 @@ abbrev pub on_name : List (List ℕ) → (List ℕ → RuleTree) → Value → R
 on_name reserved f (value.Plain (plain.Text name)) = if has_name name reserved || is_private name then Stop beyond.Name else f name
 on_name reserved f _ = Stop beyond.Namespace
 
-abbrev pub exceptions : List ExcKind
-exceptions = exception.Exception ∷ exception.ArithmeticError ∷ exception.ZeroDivisionError ∷ exception.OverflowError ∷ exception.AssertionError ∷ exception.AttributeError ∷ exception.EOFError ∷ exception.ImportError ∷ exception.ModuleNotFoundError ∷ exception.LookupError ∷ exception.IndexError ∷ exception.KeyError ∷ exception.NameError ∷ exception.UnboundLocalError ∷ exception.RuntimeError ∷ exception.NotImplementedError ∷ exception.StopIteration ∷ exception.TypeError ∷ exception.ValueError ∷ []
-
-abbrev pub is_exception_among : List ExcKind → List ℕ → Bool
-is_exception_among [] name = false
-is_exception_among (e ∷ es) name = bytes_eq name (exception_name e) || is_exception_among es name
-
 -- a name that the language has itself, which no text binds
 abbrev pub is_builtin_name : List ℕ → Bool
-is_builtin_name name = is_some (first_named builtins name) || is_exception_among exceptions name || bytes_eq name (codes "NotImplemented")
+is_builtin_name name = is_some (first_named builtins name) || is_some (exception_named name) || bytes_eq name (codes "NotImplemented")

@@ -67,9 +67,11 @@ set_item_rule n key v _ = no_items
 
 -- ---- deleting
 
+-- a dict loses a key that it has
 abbrev pub deletes_entry : ℕ → EntryList → ℕ → Plain → RuleTree
 deletes_entry n entries shape key = by_entry (λ old. takes_entry n entries shape key (Return done)) (missing_key key) (entry_value key entries)
 
+-- a namespace loses a name that it has
 abbrev pub unbinds_item : ℕ → List Binding → List (List ℕ) → List ℕ → RuleTree
 unbinds_item n names reserved name =
     by_entry (λ old. sets_cell n (cell.Namespace (without_binding name names) reserved) (Return done)) (missing_key (plain.Text name)) (bound_value name names)

@@ -19,13 +19,12 @@ use Rattle.py_store.specs.declared.cell.Which.TheVariants as view
 use Rattle.side_trees.specs.Trees.{Stop}
 use Rattle.language_rules.specs.Answers.{gives, on_tuple}
 use Rattle.language_rules.specs.Attributes.{calls_method, by_method}
+use Rattle.language_rules.specs.Draining.{items_at_hand, not_iterable}
 use Rattle.language_rules.specs.Entries.{one_more}
 use Rattle.language_rules.specs.Going.{RuleTree, nowhere, raises, reads_cell, sets_cell, gives_new}
 use Rattle.language_rules.specs.Kinds.{on_kind}
 use Rattle.language_rules.specs.Lengths.{wrong_result}
-use Rattle.language_rules.specs.PlainItems.{not_iterable}
 use Rattle.language_rules.specs.Ranges.{range_length, range_item}
-use Rattle.language_rules.specs.Sequences.{sequence_items}
 
 -- ---- an iterator over a collection
 
@@ -33,6 +32,7 @@ use Rattle.language_rules.specs.Sequences.{sequence_items}
 abbrev pub starts : ℕ → Value → RuleTree
 starts shape source = gives_new (cell.Iter (Some source) 0 shape)
 
+-- a new iterator over a view keeps the shape of its dict
 abbrev pub starts_view : ℕ → Cell → RuleTree
 starts_view n (cell.Dict entries shape) = starts shape (value.Own n)
 starts_view n _ = nowhere
@@ -63,8 +63,9 @@ abbrev pub starts_sequence : Value → Option (List Value) → RuleTree
 starts_sequence v (Some items) = starts 0 v
 starts_sequence v None = not_iterable
 
+-- by the items of the value
 abbrev pub iter_plain_rule : Value → RuleTree
-iter_plain_rule v = starts_sequence v (sequence_items v)
+iter_plain_rule v = starts_sequence v (items_at_hand v)
 
 -- ---- the next item
 
@@ -83,10 +84,12 @@ shown_entry view.Keys e = Ok (value.Plain e.0)
 shown_entry view.Values e = Ok e.1
 shown_entry view.Items e = tuple_of (value.Plain e.0 ∷ e.1 ∷ [])
 
+-- on to the entry at the place, where there is one
 abbrev pub advances_shown : ℕ → Value → ℕ → ℕ → Which → Option (Plain × Value) → RuleTree
 advances_shown n source at shape which (Some e) = on_tuple (λ item. advances n source at shape (Some item)) (shown_entry which e)
 advances_shown n source at shape which None = advances n source at shape None
 
+-- the next entry of a view, from its dict as it is now
 abbrev pub next_shown : ℕ → Value → ℕ → ℕ → Which → Cell → RuleTree
 next_shown n source at shape which (cell.Dict entries now) = unchanged shape now (advances_shown n source at shape which (slice_get entries at))
 next_shown n source at shape which _ = nowhere
@@ -103,13 +106,15 @@ next_of_cell n source at shape (cell.View dict which) = reads_cell dict (next_sh
 next_of_cell n source at shape (cell.Range start stop step) = advances n source at shape (range_item_at start stop step at)
 next_of_cell n source at shape _ = nowhere
 
+-- the next item of a text, a byte string or a tuple
 abbrev pub next_of_sequence : ℕ → Value → ℕ → ℕ → Option (List Value) → RuleTree
 next_of_sequence n source at shape (Some items) = advances n source at shape (slice_get items at)
 next_of_sequence n source at shape None = nowhere
 
+-- the next item, by what the source is
 abbrev pub next_of : ℕ → ℕ → ℕ → Value → RuleTree
 next_of n at shape (value.Own source) = reads_cell source (next_of_cell n (value.Own source) at shape)
-next_of n at shape source = next_of_sequence n source at shape (sequence_items source)
+next_of n at shape source = next_of_sequence n source at shape (items_at_hand source)
 
 -- `__next__`
 abbrev pub next_rule : ℕ → Cell → RuleTree

@@ -12,10 +12,10 @@ use Rattle.py_store.specs.declared.cell.Cell.TheVariants as cell
 use Rattle.side_trees.specs.Trees.{Stop}
 use Rattle.language_rules.specs.Answers.{gives}
 use Rattle.language_rules.specs.Attributes.{calls_method}
-use Rattle.language_rules.specs.Going.{RuleTree, boolean, nowhere, fails, type_error, reads_cell}
-use Rattle.language_rules.specs.PlainItems.{no_length}
+use Rattle.language_rules.specs.Going.{RuleTree, boolean, fails, type_error}
+use Rattle.language_rules.specs.PlainItems.{number, no_length}
 use Rattle.language_rules.specs.Ranges.{range_length}
-use Rattle.language_rules.specs.Sequences.{number}
+use Rattle.language_rules.specs.Searching.{reads_dict}
 use Rattle.language_rules.specs.TextFunctions.{as_int}
 
 -- a special method gave what it may not give
@@ -28,6 +28,7 @@ wrong_result = type_error (codes "wrong result kind")
 abbrev pub within_lengths : ℕ → (ℕ → RuleTree) → RuleTree
 within_lengths n f = if nat_lt n (2 ^ 63) then f n else Stop beyond.Int
 
+-- a length as an int
 abbrev pub gives_length : ℕ → RuleTree
 gives_length n = within_lengths n (λ m. gives (number m))
 
@@ -37,19 +38,15 @@ on_counted f (Some (pos n)) = within_lengths n f
 on_counted f (Some (negsuc n)) = fails exception.ValueError (codes "negative length")
 on_counted f None = wrong_result
 
+-- the same, by the value that the method gave
 abbrev pub on_length : (ℕ → RuleTree) → Value → RuleTree
 on_length f v = on_counted f (as_int v)
 
--- a view is as long as its dict
-abbrev pub on_entries : (ℕ → RuleTree) → Cell → RuleTree
-on_entries f (cell.Dict entries shape) = f (length entries)
-on_entries f _ = nowhere
-
--- `__len__`
+-- `__len__`: a view is as long as its dict
 abbrev pub length_rule : ℕ → Cell → RuleTree
 length_rule n (cell.List items) = gives_length (length items)
 length_rule n (cell.Dict entries shape) = gives_length (length entries)
-length_rule n (cell.View dict which) = reads_cell dict (on_entries gives_length)
+length_rule n (cell.View dict which) = reads_dict dict (λ entries shape. gives_length (length entries))
 length_rule n (cell.Range start stop step) = gives_length (range_length start stop step)
 length_rule n (cell.Instance class_no attributes) = calls_method n (special_name special.Len) [] (on_length (λ m. gives (number m))) no_length
 length_rule n (cell.Namespace names reserved) = Stop beyond.Namespace
@@ -70,10 +67,10 @@ gives_truth _ = wrong_result
 abbrev pub truth_rule : ℕ → Cell → RuleTree
 truth_rule n (cell.List items) = gives_filled (length items)
 truth_rule n (cell.Dict entries shape) = gives_filled (length entries)
-truth_rule n (cell.View dict which) = reads_cell dict (on_entries gives_filled)
+truth_rule n (cell.View dict which) = reads_dict dict (λ entries shape. gives_filled (length entries))
 truth_rule n (cell.Range start stop step) = gives_filled (range_length start stop step)
 truth_rule n (cell.Instance class_no attributes) =
     calls_method n (special_name special.Bool) [] gives_truth
-        (calls_method n (special_name special.Len) [] (on_length gives_filled) (gives (boolean true)))
+    (calls_method n (special_name special.Len) [] (on_length gives_filled) (gives (boolean true)))
 truth_rule n (cell.Namespace names reserved) = Stop beyond.Namespace
 truth_rule n _ = gives (boolean true)

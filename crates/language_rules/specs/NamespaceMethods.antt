@@ -15,6 +15,7 @@ use Rattle.language_rules.specs.Going.{RuleTree, none}
 abbrev pub gets_name : List Binding → Value → List ℕ → RuleTree
 gets_name names otherwise name = by_entry gives (gives otherwise) (bound_value name names)
 
+-- by the number of arguments
 abbrev pub namespace_method : List Binding → List (List ℕ) → BuiltinMethod → List Value → RuleTree
 namespace_method names reserved method.Get (key ∷ []) = on_name reserved (gets_name names none) key
 namespace_method names reserved method.Get (key ∷ otherwise ∷ []) = on_name reserved (gets_name names otherwise) key

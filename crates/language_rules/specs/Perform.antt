@@ -56,6 +56,7 @@ special_of_plain special.SetItem v (key ∷ item ∷ []) = no_items
 special_of_plain special.DelItem v (key ∷ []) = no_items
 special_of_plain _ v arguments = nowhere
 
+-- of an object, or of what is no reference
 abbrev pub special_rule : Special → Value → List Value → RuleTree
 special_rule operator (value.Own n) arguments = reads_cell n (special_of_cell operator n arguments)
 special_rule operator v arguments = special_of_plain operator v arguments
@@ -64,6 +65,7 @@ special_rule operator v arguments = special_of_plain operator v arguments
 abbrev pub root_cell : ℕ
 root_cell = 2
 
+-- the root, which is a side's second cell
 abbrev pub gives_root : Cell → RuleTree
 gives_root cell.Root = gives (value.Own root_cell)
 gives_root _ = nowhere
@@ -73,10 +75,12 @@ abbrev pub compare_rule : Value → CmpOp → Value → RuleTree
 compare_rule (value.Own n) op other = cell_compare n op other
 compare_rule _ op other = nowhere
 
+-- `str`
 abbrev pub str_rule : Value → RuleTree
 str_rule (value.Own n) = cell_str n
 str_rule _ = nowhere
 
+-- `repr`
 abbrev pub repr_rule : Value → RuleTree
 repr_rule (value.Own n) = cell_repr n
 repr_rule _ = nowhere

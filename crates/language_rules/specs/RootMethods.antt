@@ -30,10 +30,12 @@ module_place name modules = position (λ m. bytes_eq name m.name) modules
 abbrev pub first_module_cell : ℕ
 first_module_cell = 3
 
+-- the cell of a module
 abbrev pub gives_host : ℕ → Cell → RuleTree
 gives_host n (cell.Host host) = gives (value.Own n)
 gives_host n _ = nowhere
 
+-- the module at a place, or the exception of a name that no module has
 abbrev pub gives_module : List ℕ → Option ℕ → RuleTree
 gives_module name (Some place) = reads_cell (first_module_cell + place) (gives_host (first_module_cell + place))
 gives_module name None = fails exception.ModuleNotFoundError name
