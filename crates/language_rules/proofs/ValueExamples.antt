@@ -1,6 +1,5 @@
 -- Worked examples of truth, comparison, searching, draining, printing and builtin functions, with the units that they take. The answers are those of CPython, and where the subset ends they are its own.
 use Rattle.std.proofs.Common.{◌≡◌, ℕ, zero, suc, true, false, pos, negsuc, codes, List, [], ◌∷◌, ◌++◌, ◌^◌, ◌-◌, None, refl}
-use Rattle.ucd_category.proofs.Computing.{ucd_category}
 use Rattle.rp_base.specs.declared.plain.Plain.TheVariants as plain
 use Rattle.rp_base.specs.declared.value.Value.{Value}
 use Rattle.rp_base.specs.declared.value.Value.TheVariants as value
@@ -74,12 +73,12 @@ tuple_with_a_list = value.Tuple (value.Own 1 ∷ text (codes "a") ∷ [])
 
 -- print(([True, 'b'], 'a'), None)
 pub nested_print : runs 5 (builtin_rule builtin.Print (tuple_with_a_list ∷ none ∷ [])) (cell.List (boolean true ∷ text (codes "b") ∷ []) ∷ []) ≡ Made (Gives none) (cell.List (boolean true ∷ text (codes "b") ∷ []) ∷ []) [] 24 4 (codes "([True, 'b'], 'a') None\n")
-unfolding ucd_category rules_computing
+unfolding rules_computing
 nested_print = refl
 
 -- l = [l]; str(l)
 pub cyclic_str : runs 5 (builtin_rule builtin.Str (value.Own 1 ∷ [])) (cell.List (value.Own 1 ∷ []) ∷ []) ≡ Left beyond.CyclicRepr 3 []
-unfolding ucd_category rules_computing
+unfolding rules_computing
 cyclic_str = refl
 
 abbrev two : List Cell
@@ -136,7 +135,7 @@ tuples_in_order = refl
 
 -- {'k': ['v']} as text
 pub dict_text : runs 9 (builtin_rule builtin.Repr (value.Own 1 ∷ [])) (cell.Dict ((plain.Text (codes "k"), value.Own 2) ∷ (plain.None, none) ∷ []) 3 ∷ cell.List (text (codes "v") ∷ []) ∷ []) ≡ Made (Gives (text (codes "{'k': ['v'], None: None}"))) (cell.Dict ((plain.Text (codes "k"), value.Own 2) ∷ (plain.None, none) ∷ []) 3 ∷ cell.List (text (codes "v") ∷ []) ∷ []) [] 0 7 []
-unfolding ucd_category rules_computing
+unfolding rules_computing
 dict_text = refl
 
 -- int(' -12\n'), int('1_0'), int('x')
