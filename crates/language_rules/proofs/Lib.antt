@@ -12,6 +12,7 @@ pub mod account_a
 pub mod account_b
 pub mod back_a
 pub mod back_b
+pub mod ValueExamples
 pub mod callback_a
 pub mod callback_b
 pub mod closure
