@@ -1,12 +1,14 @@
 -- Going over a whole collection, and unpacking it (Python Language Reference, "Assignment statements"; Python Library Reference, "Iterator Types").
-use Rattle.std.specs.Prelude.{ℕ, zero, suc, Result, Ok, Err, ◌==◌, true, false, nat_lt, List, [], ◌∷◌, ◌++◌, length, codes, Option, Some, None}
+use Rattle.std.specs.Prelude.{ℕ, zero, suc, Result, Ok, Err, ◌==◌, true, false, nat_lt, pos, List, [], ◌∷◌, ◌++◌, map, length, codes, Option, Some, None, chars, encode_utf8_all}
 use Rattle.rp_base.specs.declared.exceptions.Beyond.TheVariants as beyond
 use Rattle.rp_base.specs.declared.exceptions.ExcKind.{ExcKind}
 use Rattle.rp_base.specs.declared.exceptions.ExcKind.TheVariants as exception
 use Rattle.rp_base.specs.declared.exceptions.Raised.{Raised}
 use Rattle.rp_base.specs.declared.identity.Kind.{Kind}
 use Rattle.rp_base.specs.declared.identity.Kind.TheVariants as kind
+use Rattle.rp_base.specs.declared.plain.Plain.TheVariants as plain
 use Rattle.rp_base.specs.declared.value.Value.{Value}
+use Rattle.rp_base.specs.declared.value.Value.TheVariants as value
 use Rattle.rp_base.specs.declared.ends.TupleEnd.{TupleEnd}
 use Rattle.rp_base.specs.declared.ends.TupleEnd.TheVariants as tuple_end
 use Rattle.rp_base.specs.Values.{tuple_of, heaviest_value}
@@ -14,11 +16,25 @@ use Rattle.object_operations.specs.declared.operation.Operation.TheVariants as o
 use Rattle.object_operations.specs.declared.special.Special.TheVariants as special
 use Rattle.side_trees.specs.Trees.{Return, Stop, bind}
 use Rattle.language_rules.specs.Codes.{Completion, Gives, Raises, Drained, Go, DrainNext, Step, Ends, Leaves, Asks}
-use Rattle.language_rules.specs.Going.{RuleTree, fails, on_items, operates, asks, carry}
+use Rattle.language_rules.specs.Going.{RuleTree, text, fails, type_error, on_items, operates, asks, carry}
 use Rattle.language_rules.specs.Kinds.{on_kind}
 use Rattle.language_rules.specs.Truth.{nowhere_step}
-use Rattle.language_rules.specs.PlainItems.{not_iterable}
-use Rattle.language_rules.specs.Sequences.{sequence_items}
+use Rattle.language_rules.specs.Comparing.{tuple_items}
+
+-- ---- at hand
+
+-- the characters of a text, each a text; the bytes of a byte string, each an int
+abbrev pub characters_of : List ℕ → List Value
+characters_of t = map (λ c. text (encode_utf8_all (c ∷ []))) (chars t)
+
+abbrev pub ints_of_bytes : List ℕ → List Value
+ints_of_bytes bs = map (λ b. value.Plain (plain.Int (pos b))) bs
+
+-- the items of a value that is no reference, where it has any
+abbrev pub items_at_hand : Value → Option (List Value)
+items_at_hand (value.Plain (plain.Text t)) = Some (characters_of t)
+items_at_hand (value.Plain (plain.Bytes bs)) = Some (ints_of_bytes bs)
+items_at_hand v = tuple_items v
 
 -- ---- by asking
 
@@ -46,6 +62,9 @@ drain_rule iterator items a = Return a
 
 -- ---- draining
 
+abbrev pub not_iterable : RuleTree
+not_iterable = type_error (codes "not iterable")
+
 -- By the kind of a reference: what is gone over goes on as `over` says. What is no reference has no items.
 abbrev pub drains_kind : RuleTree → Option Kind → RuleTree
 drains_kind over (Some kind.List) = over
@@ -59,7 +78,7 @@ drains_kind over _ = not_iterable
 
 -- on with all items of a value: at once for a text, a byte string and a tuple
 abbrev pub drains : Value → (List Value → RuleTree) → RuleTree
-drains v f = elim (sequence_items v) [ Some items ↦ f items | None ↦ on_kind v (drains_kind (goes_over v f)) ]
+drains v f = elim (items_at_hand v) [ Some items ↦ f items | None ↦ on_kind v (drains_kind (goes_over v f)) ]
 
 -- ---- a tuple that is made by draining, which is judged as a tuple after each item
 
@@ -89,7 +108,7 @@ abbrev pub goes_over_tuple : Value → (List Value → RuleTree) → RuleTree
 goes_over_tuple v f = asks (operation.Special v special.Iter []) (λ iterator. bind (carry (tuple_items_step heaviest_value iterator [])) (on_items f))
 
 abbrev pub drains_tuple : Value → (List Value → RuleTree) → RuleTree
-drains_tuple v f = elim (sequence_items v) [ Some items ↦ f items | None ↦ on_kind v (drains_kind (goes_over_tuple v f)) ]
+drains_tuple v f = elim (items_at_hand v) [ Some items ↦ f items | None ↦ on_kind v (drains_kind (goes_over_tuple v f)) ]
 
 -- ---- unpacking
 
@@ -104,4 +123,4 @@ unpacks_kind over None = not_iterable
 
 -- on with the items of a value, which is drained and then counted: a text, a byte string, a tuple or a list
 abbrev pub unpacks : Value → ℕ → (List Value → RuleTree) → RuleTree
-unpacks v n f = elim (sequence_items v) [ Some items ↦ counted n f items | None ↦ on_kind v (unpacks_kind (goes_over v (counted n f))) ]
+unpacks v n f = elim (items_at_hand v) [ Some items ↦ counted n f items | None ↦ on_kind v (unpacks_kind (goes_over v (counted n f))) ]
