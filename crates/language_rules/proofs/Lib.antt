@@ -8,11 +8,11 @@ pub mod ServiceExamples
 pub mod Showing
 pub mod SoloExamples
 pub mod TextExamples
+pub mod ValueExamples
 pub mod account_a
 pub mod account_b
 pub mod back_a
 pub mod back_b
-pub mod ValueExamples
 pub mod callback_a
 pub mod callback_b
 pub mod closure
