@@ -7,6 +7,8 @@ pub mod PairExamples
 pub mod ServiceExamples
 pub mod Showing
 pub mod SoloExamples
+pub mod StatementExamples
+pub mod StatementScripts
 pub mod TextExamples
 pub mod account_a
 pub mod account_b
