@@ -21,7 +21,7 @@ use Rattle.language_rules.specs.Going.{RuleTree, none, text, raised, on_value}
 use Rattle.language_rules.specs.Computing.{rules_computing}
 use Rattle.language_rules.specs.Programs.{begins_text}
 use Rattle.language_rules.specs.Rules.{expand}
-use Rattle.language_rules.proofs.StatementScripts.{places, targets, unbound_handler, reads_oops, handles_oops, calls_g, binds_oops, classes, derives, rebinds}
+use Rattle.language_rules.proofs.StatementScripts.{places, targets, unbound_handler, reads_oops, handles_oops, calls_g, binds_oops, classes, derives, rebinds, while_turns, raises_a_list}
 
 abbrev start : State
 start = record { cells = cell.Namespace [] [] ∷ cell.Root ∷ []; printed = 0; texts = []; handled = []; classes = []; printing = []; modules = []; reads_script = λ t. None; reads_expression = λ t. None }
@@ -162,3 +162,17 @@ class_and_base = refl
 base_bound_anew : runs (texts (rebinds ∷ derives ∷ [])) ≡ Left beyond.Base 11
 unfolding rules_computing
 base_bound_anew = refl
+
+-- the turns of a `while`, with an `elif` and a `continue`, and a `return` that leaves one: 37 units
+turns_of_while : runs (begins_text while_turns) ≡ Ran (Gives none) 37 (
+    cell.Namespace (named (codes "s") (text (codes "x")) ∷ named (codes "n") (text []) ∷ named (codes "h") (value.Own 3) ∷ named (codes "o") (text (codes "out")) ∷ []) [] ∷
+    cell.Root ∷
+    cell.Function 0 0 1 ∷
+    cell.Scope [] 1 ∷ []) [] []
+unfolding rules_computing
+turns_of_while = refl
+
+-- the arguments of an exception are plain
+arguments_are_plain : runs (begins_text raises_a_list) ≡ Left beyond.Payload 2
+unfolding rules_computing
+arguments_are_plain = refl

@@ -665,3 +665,88 @@ rebinds = record {
   handler_names = [];
   is_expression = false;
 }
+
+-- s = ""
+-- n = "abc"
+-- while n:
+--     if s == "x":
+--         n = ""
+--         continue
+--     elif s == "xx":
+--         break
+--     else:
+--         s = s + "x"
+-- def h(t):
+--     while t:
+--         return "out"
+-- o = h("1")
+abbrev pub while_turns : Program
+while_turns = record {
+  nodes =
+      node.Target (target.Name (codes "s")) ∷
+      node.Expression (expression.Constant (plain.Text [])) ∷
+      node.Statement (statement.Assign 0 1) ∷
+      node.Target (target.Name (codes "n")) ∷
+      node.Expression (expression.Constant (plain.Text (codes "abc"))) ∷
+      node.Statement (statement.Assign 3 4) ∷
+      node.Expression (expression.Name (codes "n")) ∷
+      node.Expression (expression.Name (codes "s")) ∷
+      node.Expression (expression.Constant (plain.Text (codes "x"))) ∷
+      node.Expression (expression.Compare 7 (record { comparison = comparison.Order cmp.Eq; line = 4; right = 8 } ∷ [])) ∷
+      node.Target (target.Name (codes "n")) ∷
+      node.Expression (expression.Constant (plain.Text [])) ∷
+      node.Statement (statement.Assign 10 11) ∷
+      node.Statement (statement.Continue) ∷
+      node.Statement (statement.Suite (12 ∷ 13 ∷ [])) ∷
+      node.Expression (expression.Name (codes "s")) ∷
+      node.Expression (expression.Constant (plain.Text (codes "xx"))) ∷
+      node.Expression (expression.Compare 15 (record { comparison = comparison.Order cmp.Eq; line = 7; right = 16 } ∷ [])) ∷
+      node.Statement (statement.Break) ∷
+      node.Statement (statement.Suite (18 ∷ [])) ∷
+      node.Target (target.Name (codes "s")) ∷
+      node.Expression (expression.Name (codes "s")) ∷
+      node.Expression (expression.Constant (plain.Text (codes "x"))) ∷
+      node.Expression (expression.Binary op.Add 21 22) ∷
+      node.Statement (statement.Assign 20 23) ∷
+      node.Statement (statement.Suite (24 ∷ [])) ∷
+      node.Statement (statement.If 17 19 (Some 25)) ∷
+      node.Statement (statement.If 9 14 (Some 26)) ∷
+      node.Statement (statement.Suite (27 ∷ [])) ∷
+      node.Statement (statement.While 6 28) ∷
+      node.Expression (expression.Name (codes "t")) ∷
+      node.Expression (expression.Constant (plain.Text (codes "out"))) ∷
+      node.Statement (statement.Return (Some 31)) ∷
+      node.Statement (statement.Suite (32 ∷ [])) ∷
+      node.Statement (statement.While 30 33) ∷
+      node.Statement (statement.Suite (34 ∷ [])) ∷
+      node.Statement (statement.Def 0) ∷
+      node.Target (target.Name (codes "o")) ∷
+      node.Expression (expression.Name (codes "h")) ∷
+      node.Expression (expression.Constant (plain.Text (codes "1"))) ∷
+      node.Expression (expression.Call 38 (39 ∷ [])) ∷
+      node.Statement (statement.Assign 37 40) ∷
+      node.Statement (statement.Suite (2 ∷ 5 ∷ 29 ∷ 36 ∷ 41 ∷ [])) ∷
+      [];
+  lines = (1 ∷ 1 ∷ 1 ∷ 2 ∷ 2 ∷ 2 ∷ 3 ∷ 4 ∷ 4 ∷ 4 ∷ 5 ∷ 5 ∷ 5 ∷ 6 ∷ 4 ∷ 7 ∷ 7 ∷ 7 ∷ 8 ∷ 7 ∷ 10 ∷ 10 ∷ 10 ∷ 10 ∷ 10 ∷ 9 ∷ 7 ∷ 4 ∷ 3 ∷ 3 ∷ 12 ∷ 13 ∷ 13 ∷ 12 ∷ 12 ∷ 11 ∷ 11 ∷ 14 ∷ 14 ∷ 14 ∷ 14 ∷ 14 ∷ 1 ∷ []);
+  root = 42;
+  functions =
+      record { name = (codes "h"); parameters = ((record { text = (codes "t"); line = 11 }) ∷ []); locals = ((codes "t") ∷ []); free = []; has_inner = false; parent = None; body = 35 } ∷
+      [];
+  handler_names = [];
+  is_expression = false;
+}
+
+-- raise ValueError([])
+abbrev pub raises_a_list : Program
+raises_a_list = record {
+  nodes =
+      node.Expression (expression.List []) ∷
+      node.Statement (statement.RaiseCall (record { text = (codes "ValueError"); line = 1 }) (0 ∷ [])) ∷
+      node.Statement (statement.Suite (1 ∷ [])) ∷
+      [];
+  lines = (1 ∷ 1 ∷ 1 ∷ []);
+  root = 2;
+  functions = [];
+  handler_names = [];
+  is_expression = false;
+}
