@@ -102,7 +102,7 @@ targets_and_loops : runs (begins_text targets) ≡ Ran (Gives none) 159 (
     named (codes "a") (text (codes "a")) ∷
     named (codes "q") (text (codes "b")) ∷
     named (codes "m") (of_texts (codes "wrong number of values" ∷ [])) ∷
-    named (codes "u") (text (codes "wrong number of values")) ∷
+    named (codes "u") (text (codes "ValueError('wrong number of values')")) ∷
     named (codes "w") (text (codes "not iterable")) ∷ []) (codes "e" ∷ []) ∷
     cell.Root ∷
     cell.Function 0 0 1 ∷

@@ -270,7 +270,7 @@ places = record {
 --         pass
 -- except ValueError as e:
 --     m = e.args
---     u = str(e)
+--     u = repr(e)
 -- try:
 --     for z in 3:
 --         pass
@@ -406,7 +406,7 @@ targets = record {
       node.Expression (expression.Attribute 123 (codes "args")) ∷
       node.Statement (statement.Assign 122 124) ∷
       node.Target (target.Name (codes "u")) ∷
-      node.Expression (expression.Builtin builtin.Str) ∷
+      node.Expression (expression.Builtin builtin.Repr) ∷
       node.Expression (expression.Name (codes "e")) ∷
       node.Expression (expression.Call 127 (128 ∷ [])) ∷
       node.Statement (statement.Assign 126 129) ∷
