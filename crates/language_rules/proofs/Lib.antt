@@ -1,4 +1,5 @@
 pub mod BoxLaw
+pub mod CallbackScripts
 pub mod CollectionExamples
 pub mod ExceptionLaw
 pub mod ExpressionExamples

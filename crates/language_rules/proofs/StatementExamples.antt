@@ -22,6 +22,9 @@ use Rattle.language_rules.specs.Computing.{rules_computing}
 use Rattle.language_rules.specs.Programs.{begins_text}
 use Rattle.language_rules.specs.Rules.{expand}
 use Rattle.language_rules.proofs.StatementScripts.{places, targets, unbound_handler, reads_oops, handles_oops, calls_g, binds_oops, classes, derives, rebinds, while_turns, raises_a_list}
+use Rattle.language_rules.specs.OneInterpreter.{EndsDone}
+use Rattle.language_rules.proofs.Showing.{pair_shown, line}
+use Rattle.language_rules.proofs.CallbackScripts.{calls_back, is_called_back}
 
 abbrev start : State
 start = record { cells = cell.Namespace [] [] ∷ cell.Root ∷ []; printed = 0; texts = []; handled = []; classes = []; printing = []; modules = []; reads_script = λ t. None; reads_expression = λ t. None }
@@ -176,3 +179,8 @@ turns_of_while = refl
 arguments_are_plain : runs (begins_text raises_a_list) ≡ Left beyond.Payload 2
 unfolding rules_computing
 arguments_are_plain = refl
+
+-- A function that is called back while two handlers of the same name are entered, one on each side: each name stands for its own exception. 39 units.
+handlers_on_both_sides : pair_shown calls_back is_called_back 100 ≡ record { ends = EndsDone; of_b = []; of_a = line (codes "'x' outer"); units = 39; exports = (0, 2) }
+unfolding rules_computing
+handlers_on_both_sides = refl
