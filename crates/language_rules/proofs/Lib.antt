@@ -1,4 +1,5 @@
 pub mod BoxLaw
+pub mod CallbackScripts
 pub mod CollectionExamples
 pub mod ExceptionLaw
 pub mod ExpressionExamples
@@ -7,6 +8,8 @@ pub mod PairExamples
 pub mod ServiceExamples
 pub mod Showing
 pub mod SoloExamples
+pub mod StatementExamples
+pub mod StatementScripts
 pub mod TextExamples
 pub mod ValueExamples
 pub mod account_a

@@ -32,6 +32,7 @@ abbrev pub made_class : ℕ → List ℕ → List MadeClass → Option ℕ
 made_class text name [] = None
 made_class text name (c ∷ cs) = if (c.text == text) && bytes_eq name c.name then Some c.number else made_class text name cs
 
+-- on with the class, where both are the same
 abbrev pub on_same : (ℕ → RuleTree) → Option Value → Option ℕ → RuleTree
 on_same f (Some (value.Own bound)) (Some made) = if bound == made then f bound else Stop beyond.Base
 on_same f _ _ = Stop beyond.Base
@@ -51,6 +52,7 @@ member_rule env (statement.Alone n) = evaluates env n (λ v. Return done)
 member_rule env statement.Pass = Return done
 member_rule env _ = nowhere
 
+-- on with the name, where the target is one
 abbrev pub on_name : (List ℕ → RuleTree) → Target → RuleTree
 on_name f (target.Name name) = f name
 on_name f _ = nowhere
@@ -69,6 +71,7 @@ on_members env (n ∷ ns) bindings f =
 
 -- ---- the statement
 
+-- the class that the statement made is kept with its text and name
 abbrev pub remembered : Env → List ℕ → ℕ → State → State
 remembered env name number s = record s { classes = record { text = env.text; name = name; number = number } ∷ s.classes }
 

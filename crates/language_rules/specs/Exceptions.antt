@@ -35,9 +35,11 @@ bases_of kind.StopIteration = kind.Exception ∷ []
 bases_of kind.TypeError = kind.Exception ∷ []
 bases_of kind.ValueError = kind.Exception ∷ []
 
+-- all classes
 abbrev pub exceptions : List ExcKind
 exceptions = kind.Exception ∷ kind.ArithmeticError ∷ kind.ZeroDivisionError ∷ kind.OverflowError ∷ kind.AssertionError ∷ kind.AttributeError ∷ kind.EOFError ∷ kind.ImportError ∷ kind.ModuleNotFoundError ∷ kind.LookupError ∷ kind.IndexError ∷ kind.KeyError ∷ kind.NameError ∷ kind.UnboundLocalError ∷ kind.RuntimeError ∷ kind.NotImplementedError ∷ kind.StopIteration ∷ kind.TypeError ∷ kind.ValueError ∷ []
 
+-- the first of these classes that has the name
 abbrev pub first_named : List ExcKind → List ℕ → Option ExcKind
 first_named [] name = None
 first_named (k ∷ ks) name = if bytes_eq name (exception_name k) then Some k else first_named ks name
@@ -50,6 +52,7 @@ exception_named name = first_named exceptions name
 abbrev pub names_of : ExcKind → List (List ℕ)
 names_of k = map exception_name (k ∷ bases_of k)
 
+-- whether one of the names is that of the class or of one above it
 abbrev pub names_one : List Name → ExcKind → Bool
 names_one [] k = false
 names_one (n ∷ ns) k = if has_name n.text (names_of k) then true else names_one ns k
@@ -59,6 +62,7 @@ abbrev pub catches : List Name → ExcKind → Bool
 catches [] k = true
 catches ns k = names_one ns k
 
+-- whether it is the end of an iteration
 abbrev pub is_stop : ExcKind → Bool
 is_stop kind.StopIteration = true
 is_stop _ = false

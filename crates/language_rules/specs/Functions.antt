@@ -19,6 +19,7 @@ runs_node env number (Some (node.Statement (statement.Suite statements))) = exec
 runs_node env number (Some (node.Expression e)) = evaluates env number (λ v. Return (Gives v))
 runs_node env number _ = nowhere
 
+-- the body of a function, or the root of a text
 abbrev pub runs_body : Env → ℕ → RuleTree
 runs_body env number = looks (λ s. runs_node env number (node_at s env number))
 
@@ -36,6 +37,7 @@ returned a = a
 abbrev pub ends_call : FunctionInfo → ℕ → ℕ → Completion → RuleTree
 ends_call info scope parent a = if info.has_inner then Return (returned a) else sets_cell scope (cell.Scope [] parent) (Return (returned a))
 
+-- the number of arguments is judged before the scope is made
 abbrev pub runs_function : ℕ → ℕ → ℕ → List Value → FunctionInfo → RuleTree
 runs_function text function parent arguments info =
     if length info.parameters == length arguments

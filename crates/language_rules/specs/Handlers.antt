@@ -21,13 +21,16 @@ use Rattle.language_rules.specs.Exceptions.{exception_str, exception_repr}
 abbrev pub is_of : Env → Handling → Bool
 is_of env h = (h.text == env.text) && (h.scope == env.scope)
 
+-- whether it has this name
 abbrev pub is_called : List ℕ → Option (List ℕ) → Bool
 is_called name None = false
 is_called name (Some other) = bytes_eq name other
 
+-- whether it has this name in this run of code
 abbrev pub is_named : Env → List ℕ → Handling → Bool
 is_named env name h = is_of env h && is_called name h.name
 
+-- the innermost that passes the test
 abbrev pub first_handling : (Handling → Bool) → List Handling → Option Handling
 first_handling test [] = None
 first_handling test (h ∷ hs) = if test h then Some h else first_handling test hs
@@ -37,6 +40,7 @@ abbrev pub unbinds : Env → List ℕ → List Handling → List Handling
 unbinds env name [] = []
 unbinds env name (h ∷ hs) = if is_named env name h then record h { bound = false } ∷ hs else h ∷ unbinds env name hs
 
+-- one without a name leaves the others as they are
 abbrev pub unbinds_behind : Env → Option (List ℕ) → List Handling → List Handling
 unbinds_behind env None hs = hs
 unbinds_behind env (Some name) hs = unbinds env name hs
@@ -46,9 +50,11 @@ abbrev pub without_first : List Handling → List Handling
 without_first [] = []
 without_first (h ∷ hs) = hs
 
+-- the exception is being handled, innermost
 abbrev pub entered : Env → Option (List ℕ) → Raised → State → State
 entered env name r s = record s { handled = record { text = env.text; scope = env.scope; name = name; raised = r; bound = true } ∷ s.handled }
 
+-- it is no longer being handled
 abbrev pub left : Env → Option (List ℕ) → State → State
 left env name s = record s { handled = unbinds_behind env name (without_first s.handled) }
 
@@ -67,6 +73,7 @@ abbrev pub unbound_handler : Option ℕ → List ℕ → RuleTree
 unbound_handler None name = unbound_name name
 unbound_handler (Some f) name = unbound_local name
 
+-- on with the exception, where the name still stands for it
 abbrev pub handled_or : Env → List ℕ → (Raised → RuleTree) → Option Handling → RuleTree
 handled_or env name f None = nowhere
 handled_or env name f (Some h) = if h.bound then f h.raised else unbound_handler env.function name

@@ -47,10 +47,12 @@ place_in s env name f (Some info) =
     if has_name name info.locals then Own env.scope
     else (if has_name name info.free then outer_place s env.text name f info.parent (around (cell_at s env.scope)) else Global)
 
+-- at the top of a text every name is global
 abbrev pub place_by : State → Env → List ℕ → Option ℕ → Place
 place_by s env name None = Global
 place_by s env name (Some f) = place_in s env name f (function_at s env.text f)
 
+-- where a name is, for the code that runs
 abbrev pub place_of : State → Env → List ℕ → Place
 place_of s env name = place_by s env name env.function
 
@@ -78,6 +80,7 @@ abbrev pub reads_global : List ℕ → (Value → RuleTree) → Option Cell → 
 reads_global name f (Some (cell.Namespace names reserved)) = value_or (if has_name name reserved then Stop beyond.Name else unbound_name name) f (bound_value name names)
 reads_global name f _ = nowhere
 
+-- a name by its place: of the code's own variables an unbound one is UnboundLocalError, and of those around it NameError
 abbrev pub reads_at : State → List ℕ → (Value → RuleTree) → Place → RuleTree
 reads_at s name f (Own scope) = reads_variable name (unbound_local name) f (cell_at s scope)
 reads_at s name f (Outer scope) = reads_variable name (unbound_name name) f (cell_at s scope)
@@ -90,16 +93,19 @@ reads_name env name f = looks (λ s. reads_at s name f (place_of s env name))
 
 -- ---- binding (Language Reference, "Binding of names")
 
+-- a variable of a call is bound
 abbrev pub binds_variable : ℕ → List ℕ → Value → RuleTree → Option Cell → RuleTree
 binds_variable scope name v t (Some (cell.Scope names parent)) = sets_cell scope (cell.Scope (with_binding name v names) parent) t
 binds_variable scope name v t _ = nowhere
 
+-- a global name is bound; one that a text uses after `as` is outside the subset
 abbrev pub binds_global : List ℕ → Value → RuleTree → Option Cell → RuleTree
 binds_global name v t (Some (cell.Namespace names reserved)) =
     if has_name name reserved then Stop beyond.Name
     else sets_cell namespace_number (cell.Namespace (with_binding name v names) reserved) t
 binds_global name v t _ = nowhere
 
+-- a name is bound at its place
 abbrev pub binds_at : State → List ℕ → Value → RuleTree → Place → RuleTree
 binds_at s name v t (Own scope) = binds_variable scope name v t (cell_at s scope)
 binds_at s name v t (Outer scope) = binds_variable scope name v t (cell_at s scope)

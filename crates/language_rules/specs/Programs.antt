@@ -30,6 +30,7 @@ reserves_in names t (cell.Namespace bindings reserved) =
     if binds_one names bindings then Stop beyond.Name else sets_cell namespace_number (cell.Namespace bindings (with_names names reserved)) t
 reserves_in names t _ = nowhere
 
+-- the names are reserved, and then the rest comes
 abbrev pub reserves : List (List ℕ) → RuleTree → RuleTree
 reserves names t = reads_cell namespace_number (reserves_in names t)
 

@@ -24,6 +24,7 @@ abbrev pub raised_again : Option Handling → RuleTree
 raised_again None = nowhere
 raised_again (Some h) = Return (Raises h.raised)
 
+-- it is that of the innermost handler of this run of code, or the one that is under way in a `finally`
 abbrev pub raise_again_rule : Env → RuleTree
 raise_again_rule env = looks (λ s. raised_again (first_handling (is_of env) s.handled))
 
@@ -32,6 +33,7 @@ abbrev pub raise_by_name : Env → List ℕ → Option ExcKind → RuleTree
 raise_by_name env name (Some k) = raises k []
 raise_by_name env name None = on_handled env name (λ r. Return (Raises r))
 
+-- the name of a class comes first, since no handler has one
 abbrev pub raise_name_rule : Env → List ℕ → RuleTree
 raise_name_rule env name = raise_by_name env name (exception_named name)
 
@@ -40,6 +42,7 @@ abbrev pub raise_plain : ExcKind → Option (List Plain) → RuleTree
 raise_plain k None = Stop beyond.Payload
 raise_plain k (Some ps) = raises k ps
 
+-- a class with the values of its arguments
 abbrev pub raise_with : Option ExcKind → List Value → RuleTree
 raise_with None vs = nowhere
 raise_with (Some k) vs = if too_heavy vs then Stop beyond.Size else raise_plain k (plains_of vs)
@@ -50,10 +53,12 @@ raise_call_rule env name arguments = evaluates_all env arguments (raise_with (ex
 
 -- ---- try
 
+-- on with the parts of a handler
 abbrev pub as_handler : (List Name → Option Name → ℕ → RuleTree) → Statement → RuleTree
 as_handler f (statement.Except kinds name body) = f kinds name body
 as_handler f _ = nowhere
 
+-- the name without its line
 abbrev pub name_of : Option Name → Option (List ℕ)
 name_of None = None
 name_of (Some n) = Some n.text
@@ -65,6 +70,7 @@ handles env r (n ∷ ns) =
     on_statement env n (as_handler (λ kinds name body.
     if catches kinds r.kind then handling env (name_of name) r (executes_suite env body) else handles env r ns))
 
+-- on with an exception; another end is handed on
 abbrev pub on_raised : (Raised → RuleTree) → Completion → RuleTree
 on_raised f (Raises r) = f r
 on_raised f a = Return a
@@ -79,9 +85,11 @@ abbrev pub finally_suite : Env → ℕ → Completion → RuleTree
 finally_suite env suite (Raises r) = bind (handling env None r (executes_suite env suite)) (replaces (Raises r))
 finally_suite env suite pending = bind (executes_suite env suite) (replaces pending)
 
+-- behind a `try` that has no `finally` the end goes on
 abbrev pub finally_rule : Env → Option ℕ → Completion → RuleTree
 finally_rule env None pending = Return pending
 finally_rule env (Some suite) pending = finally_suite env suite pending
 
+-- the suite, the handler that takes its exception, and then the suite of `finally`
 abbrev pub try_rule : Env → ℕ → List ℕ → Option ℕ → RuleTree
 try_rule env body handlers last = bind (bind (executes_suite env body) (on_raised (λ r. handles env r handlers))) (finally_rule env last)

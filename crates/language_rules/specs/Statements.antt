@@ -1,13 +1,12 @@
 -- What each statement does behind its unit (Python Language Reference, "Simple statements", "Compound statements").
-use Rattle.std.specs.Prelude.{ℕ, Option, Some, None, if◌then◌else◌}
+use Rattle.std.specs.Prelude.{ℕ, [], ◌∷◌, Option, Some, None, if◌then◌else◌}
 use Rattle.rp_base.specs.declared.value.Value.TheVariants as value
 use Rattle.py_ast.specs.declared.node.Node.{Node}
 use Rattle.py_ast.specs.declared.node.Node.TheVariants as node
 use Rattle.py_ast.specs.declared.statement.Statement.{Statement}
 use Rattle.py_ast.specs.declared.statement.Statement.TheVariants as statement
 use Rattle.py_store.specs.declared.cell.Cell.TheVariants as cell
-use Rattle.side_trees.specs.Trees.{Return, Spend}
-use Rattle.language_rules.specs.Codes as code
+use Rattle.side_trees.specs.Trees.{Return}
 use Rattle.language_rules.specs.Codes.{Env, Returns, Breaks, Continues}
 use Rattle.language_rules.specs.Going.{RuleTree, nowhere, none, done, looks, makes, evaluates, executes_all}
 use Rattle.language_rules.specs.Texts.{node_at, on_function, executes_suite}
@@ -30,13 +29,15 @@ return_rule env (Some n) = evaluates env n (λ v. Return (Returns v))
 -- what stands behind `else` is a suite, or the `if` that an `elif` is, which is a statement of its own
 abbrev pub otherwise_at : Env → ℕ → Option Node → RuleTree
 otherwise_at env n (Some (node.Statement (statement.Suite statements))) = executes_all env statements
-otherwise_at env n (Some (node.Statement (statement.If test body otherwise))) = Spend (code.Node env n) Return
+otherwise_at env n (Some (node.Statement (statement.If test body otherwise))) = executes_all env (n ∷ [])
 otherwise_at env n _ = nowhere
 
+-- without an `else` nothing is done
 abbrev pub otherwise_rule : Env → Option ℕ → RuleTree
 otherwise_rule env None = Return done
 otherwise_rule env (Some n) = looks (λ s. otherwise_at env n (node_at s env n))
 
+-- the test, and then one of the two suites
 abbrev pub if_rule : Env → ℕ → ℕ → Option ℕ → RuleTree
 if_rule env test body otherwise = evaluates env test (λ v. on_truth v (λ b. if b then executes_suite env body else otherwise_rule env otherwise))
 

@@ -43,6 +43,7 @@ abbrev pub assigns_target : Env → Value → Target → RuleTree
 assigns_target env v (target.Tuple targets) = unpacks v (length targets) (assigns_each env targets)
 assigns_target env v t = assigns_place env v t
 
+-- the value goes to the target of this number
 abbrev pub assigns : Env → ℕ → Value → RuleTree
 assigns env n v = on_target env n (assigns_target env v)
 
@@ -62,16 +63,19 @@ augments_target env op right (target.Item receiver key) =
     evaluates env receiver (λ r. evaluates env key (λ k. bind (item_of r k) (on_value (λ old. augments env op right old (stores_item r k)))))
 augments_target env op right (target.Tuple targets) = nowhere
 
+-- `target op= right`
 abbrev pub augmented_assignment_rule : Env → ℕ → BinaryOp → ℕ → RuleTree
 augmented_assignment_rule env n op right = on_target env n (augments_target env op right)
 
 -- ---- del
 
+-- an attribute or an item is taken out by an operation
 abbrev pub deletes_target : Env → Target → RuleTree
 deletes_target env (target.Attribute receiver name) = evaluates env receiver (λ r. asks (operation.DelAttr r name) (λ a. Return done))
 deletes_target env (target.Item receiver key) =
     evaluates env receiver (λ r. evaluates env key (λ k. asks (operation.Special r special.DelItem (k ∷ [])) (λ a. Return done)))
 deletes_target env _ = nowhere
 
+-- `del target`
 abbrev pub delete_rule : Env → ℕ → RuleTree
 delete_rule env n = on_target env n (deletes_target env)

@@ -19,9 +19,11 @@ has_name name (other ∷ others) = if bytes_eq name other then true else has_nam
 
 -- ---- by number
 
+-- a text of the side, by its number
 abbrev pub text_at : State → ℕ → Option Program
 text_at s number = slice_get s.texts number
 
+-- a node of a text
 abbrev pub node_of : Option Program → ℕ → Option Node
 node_of None number = None
 node_of (Some p) number = slice_get p.nodes number
@@ -30,6 +32,7 @@ node_of (Some p) number = slice_get p.nodes number
 abbrev pub node_at : State → Env → ℕ → Option Node
 node_at s env number = node_of (text_at s env.text) number
 
+-- a function of a text
 abbrev pub function_of : Option Program → ℕ → Option FunctionInfo
 function_of None number = None
 function_of (Some p) number = slice_get p.functions number
@@ -45,31 +48,39 @@ handler_names_of (Some p) = p.handler_names
 
 -- ---- on with a node of one kind
 
+-- on with it, where it is a statement
 abbrev pub as_statement : (Statement → RuleTree) → Option Node → RuleTree
 as_statement f (Some (node.Statement s)) = f s
 as_statement f _ = nowhere
 
+-- on with the statement of this number
 abbrev pub on_statement : Env → ℕ → (Statement → RuleTree) → RuleTree
 on_statement env number f = looks (λ s. as_statement f (node_at s env number))
 
+-- on with it, where it is a target
 abbrev pub as_target : (Target → RuleTree) → Option Node → RuleTree
 as_target f (Some (node.Target t)) = f t
 as_target f _ = nowhere
 
+-- on with the target of this number
 abbrev pub on_target : Env → ℕ → (Target → RuleTree) → RuleTree
 on_target env number f = looks (λ s. as_target f (node_at s env number))
 
+-- on with its statements, where it is a suite
 abbrev pub as_suite : (List ℕ → RuleTree) → Statement → RuleTree
 as_suite f (statement.Suite statements) = f statements
 as_suite f _ = nowhere
 
+-- on with the statements of the suite of this number
 abbrev pub on_suite : Env → ℕ → (List ℕ → RuleTree) → RuleTree
 on_suite env number f = on_statement env number (as_suite f)
 
+-- on with it, where it is there
 abbrev pub as_function : (FunctionInfo → RuleTree) → Option FunctionInfo → RuleTree
 as_function f (Some info) = f info
 as_function f None = nowhere
 
+-- on with the function of this number in the text of that number
 abbrev pub on_function : ℕ → ℕ → (FunctionInfo → RuleTree) → RuleTree
 on_function text number f = looks (λ s. as_function f (function_at s text number))
 
