@@ -8,12 +8,12 @@ use Rattle.py_ast.specs.declared.builtin.Builtin.{Builtin}
 use Rattle.py_ast.specs.declared.builtin.Builtin.TheVariants as builtin
 use Rattle.py_store.specs.declared.cell.Cell.TheVariants as cell
 use Rattle.side_trees.specs.Trees.{Return, Stop}
-use Rattle.language_rules.specs.Codes.{Gives}
+use Rattle.language_rules.specs.Codes.{ATuple, Gives}
 use Rattle.language_rules.specs.Going.{RuleTree, boolean, gives_new}
 use Rattle.language_rules.specs.Answers.{tuple_answers}
 use Rattle.language_rules.specs.PlainItems.{length_of}
 use Rattle.language_rules.specs.Truth.{on_truth}
-use Rattle.language_rules.specs.Draining.{drains, drains_tuple}
+use Rattle.language_rules.specs.Draining.{drains, drains_into}
 use Rattle.language_rules.specs.Printing.{on_repr, on_str, gives_text}
 use Rattle.language_rules.specs.Output.{prints}
 use Rattle.language_rules.specs.Conversions.{gives_int, int_of, absolute, ord_of, chr_of, only_ints, range_over}
@@ -37,7 +37,7 @@ builtin_rule builtin.Range vs = range_over (only_ints vs)
 builtin_rule builtin.List [] = gives_new (cell.List [])
 builtin_rule builtin.List (v ∷ []) = drains v (λ items. gives_new (cell.List items))
 builtin_rule builtin.Tuple [] = tuple_answers (tuple_of [])
-builtin_rule builtin.Tuple (v ∷ []) = drains_tuple v (λ items. tuple_answers (tuple_of items))
+builtin_rule builtin.Tuple (v ∷ []) = drains_into ATuple v (λ items. tuple_answers (tuple_of items))
 builtin_rule builtin.Dict [] = gives_new (cell.Dict [] 0)
 builtin_rule builtin.Min (v ∷ []) = drains v (gives_best cmp.Lt)
 builtin_rule builtin.Min (v ∷ w ∷ vs) = gives_best cmp.Lt (v ∷ w ∷ vs)

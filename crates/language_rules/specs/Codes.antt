@@ -21,6 +21,10 @@ pub data Completion : Type 0 where
   Breaks Continues : Completion
   Drained : List Value → Completion
 
+-- what the items of a collection that is gone over are put into, whose limit is judged with each of them
+pub data Container : Type 0 where
+  AList ATuple : Container
+
 -- Node: an expression or a statement of a text. Member: a statement of a class body. Perform: an operation, at the home of its receiver.
 -- Give: nothing but this end. Then: a piece of code, and then the one that goes on after it. Go: a step.
 -- WhileTest: a turn of a `while` from its test on. ForNext: a turn of a `for` from the answer of `__next__` on.
@@ -40,7 +44,7 @@ mutual
     Go : Step → Code
     WhileTest : Env → ℕ → ℕ → Code
     ForNext : Env → ℕ → ℕ → Value → Completion → Code
-    DrainNext : Value → List Value → Completion → Code
+    DrainNext : Container → Value → List Value → Completion → Code
     SearchNext : ℕ → ℕ → Value → Completion → Code
     ValuesNext : ℕ → ℕ → Value → Completion → Code
     ListText : ℕ → ℕ → List ℕ → Completion → Code

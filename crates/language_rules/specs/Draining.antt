@@ -1,5 +1,6 @@
 -- Going over a whole collection, and unpacking it (Python Language Reference, "Assignment statements"; Python Library Reference, "Iterator Types").
-use Rattle.std.specs.Prelude.{ℕ, zero, suc, Result, Ok, Err, ◌==◌, true, false, nat_lt, pos, List, [], ◌∷◌, ◌++◌, map, length, codes, Option, Some, None, chars, encode_utf8_all}
+use Rattle.std.specs.Prelude.{if◌then◌else◌, ℕ, zero, suc, Result, Ok, Err, ◌==◌, true, false, nat_lt, pos, List, [], ◌∷◌, ◌++◌, map, length, codes, Option, Some, None, chars, encode_utf8_all}
+use Rattle.rp_base.specs.declared.exceptions.Beyond.{Beyond}
 use Rattle.rp_base.specs.declared.exceptions.Beyond.TheVariants as beyond
 use Rattle.rp_base.specs.declared.exceptions.ExcKind.{ExcKind}
 use Rattle.rp_base.specs.declared.exceptions.ExcKind.TheVariants as exception
@@ -15,7 +16,7 @@ use Rattle.rp_base.specs.Values.{tuple_of, heaviest_value}
 use Rattle.object_operations.specs.declared.operation.Operation.TheVariants as operation
 use Rattle.object_operations.specs.declared.special.Special.TheVariants as special
 use Rattle.side_trees.specs.Trees.{Return, Stop, bind}
-use Rattle.language_rules.specs.Codes.{Completion, Gives, Raises, Drained, Go, DrainNext, Step, Ends, Leaves, Asks}
+use Rattle.language_rules.specs.Codes.{Completion, Gives, Raises, Drained, Container, AList, ATuple, DrainNext}
 use Rattle.language_rules.specs.Going.{RuleTree, text, fails, type_error, on_items, operates, asks, carry}
 use Rattle.language_rules.specs.Kinds.{on_kind}
 use Rattle.language_rules.specs.Truth.{nowhere_step}
@@ -42,23 +43,36 @@ items_at_hand v = tuple_items v
 abbrev pub most_items : ℕ
 most_items = 1048576
 
-abbrev pub asks_next : Value → List Value → RuleTree
-asks_next iterator items = operates (operation.Special iterator special.Next []) (λ a. DrainNext iterator items a) (λ a. Return a)
+abbrev pub limit_passed : Result Value TupleEnd → Option Beyond
+limit_passed (Err (tuple_end.Beyond b)) = Some b
+limit_passed _ = None
+
+-- the limit that a list or a tuple of these items passes
+abbrev pub passes : Container → List Value → Option Beyond
+passes AList items = if nat_lt most_items (length items) then Some beyond.Size else None
+passes ATuple items = limit_passed (tuple_of items)
+
+abbrev pub within_limit : RuleTree → Option Beyond → RuleTree
+within_limit t None = t
+within_limit t (Some b) = Stop b
+
+abbrev pub asks_next : Container → Value → List Value → RuleTree
+asks_next container iterator items = operates (operation.Special iterator special.Next []) (λ a. DrainNext container iterator items a) (λ a. Return a)
 
 -- `__iter__` is asked, and then `__next__` until StopIteration
-abbrev pub goes_over : Value → (List Value → RuleTree) → RuleTree
-goes_over v f = asks (operation.Special v special.Iter []) (λ iterator. bind (asks_next iterator []) (on_items f))
+abbrev pub goes_over : Container → Value → (List Value → RuleTree) → RuleTree
+goes_over container v f = asks (operation.Special v special.Iter []) (λ iterator. bind (asks_next container iterator []) (on_items f))
 
 -- an exception of `__next__`: that which tells the end, and any other
 abbrev pub ends_drain : List Value → Raised → ExcKind → RuleTree
 ends_drain items r exception.StopIteration = Return (Drained items)
 ends_drain items r _ = Return (Raises r)
 
--- the going over from an answer of `__next__` on: what is gone over is judged as a list after each item, before the next is asked
-abbrev pub drain_rule : Value → List Value → Completion → RuleTree
-drain_rule iterator items (Gives v) = elim (nat_lt most_items (suc (length items))) [ true ↦ Stop beyond.Size | false ↦ asks_next iterator (items ++ v ∷ []) ]
-drain_rule iterator items (Raises r) = ends_drain items r r.kind
-drain_rule iterator items a = Return a
+-- the going over from an answer of `__next__` on: what is gone over is judged with each item, before the next is asked
+abbrev pub drain_rule : Container → Value → List Value → Completion → RuleTree
+drain_rule container iterator items (Gives v) = within_limit (asks_next container iterator (items ++ v ∷ [])) (passes container (items ++ v ∷ []))
+drain_rule container iterator items (Raises r) = ends_drain items r r.kind
+drain_rule container iterator items a = Return a
 
 -- ---- draining
 
@@ -76,39 +90,12 @@ drains_kind over (Some kind.Iter) = Stop beyond.Drain
 drains_kind over (Some kind.Namespace) = Stop beyond.Namespace
 drains_kind over _ = not_iterable
 
--- on with all items of a value: at once for a text, a byte string and a tuple
+-- on with all items of a value that go into a container: at once for a text, a byte string and a tuple
+abbrev pub drains_into : Container → Value → (List Value → RuleTree) → RuleTree
+drains_into container v f = elim (items_at_hand v) [ Some items ↦ f items | None ↦ on_kind v (drains_kind (goes_over container v f)) ]
+
 abbrev pub drains : Value → (List Value → RuleTree) → RuleTree
-drains v f = elim (items_at_hand v) [ Some items ↦ f items | None ↦ on_kind v (drains_kind (goes_over v f)) ]
-
--- ---- a tuple that is made by draining, which is judged as a tuple after each item
-
--- an exception of `__next__`, where a step goes on
-abbrev pub ends_tuple : List Value → Raised → ExcKind → Step
-ends_tuple items r exception.StopIteration = Ends (Drained items)
-ends_tuple items r _ = Ends (Raises r)
-
--- the items so far, where a tuple of them is within the limits
-abbrev pub within_tuple : (List Value → Step) → List Value → Result Value TupleEnd → Step
-within_tuple f items (Ok v) = f items
-within_tuple f items (Err (tuple_end.Beyond b)) = Leaves b
-within_tuple f items (Err tuple_end.NoMemory) = nowhere_step
-
--- from an answer of `__next__` on
-abbrev pub tuple_goes_on : (List Value → Step) → List Value → Completion → Step
-tuple_goes_on f items (Gives v) = within_tuple f (items ++ v ∷ []) (tuple_of (items ++ v ∷ []))
-tuple_goes_on f items (Raises r) = ends_tuple items r r.kind
-tuple_goes_on f items a = Ends a
-
--- at most so many items more, which each weigh something: no tuple has as many as its greatest weight
-abbrev pub tuple_items_step : ℕ → Value → List Value → Step
-tuple_items_step zero iterator items = Leaves beyond.Size
-tuple_items_step (suc most) iterator items = Asks (operation.Special iterator special.Next []) (λ a. Go (tuple_goes_on (tuple_items_step most iterator) items a))
-
-abbrev pub goes_over_tuple : Value → (List Value → RuleTree) → RuleTree
-goes_over_tuple v f = asks (operation.Special v special.Iter []) (λ iterator. bind (carry (tuple_items_step heaviest_value iterator [])) (on_items f))
-
-abbrev pub drains_tuple : Value → (List Value → RuleTree) → RuleTree
-drains_tuple v f = elim (items_at_hand v) [ Some items ↦ f items | None ↦ on_kind v (drains_kind (goes_over_tuple v f)) ]
+drains v f = drains_into AList v f
 
 -- ---- unpacking
 
@@ -123,4 +110,4 @@ unpacks_kind over None = not_iterable
 
 -- on with the items of a value, which is drained and then counted: a text, a byte string, a tuple or a list
 abbrev pub unpacks : Value → ℕ → (List Value → RuleTree) → RuleTree
-unpacks v n f = elim (items_at_hand v) [ Some items ↦ counted n f items | None ↦ on_kind v (unpacks_kind (goes_over v (counted n f))) ]
+unpacks v n f = elim (items_at_hand v) [ Some items ↦ counted n f items | None ↦ on_kind v (unpacks_kind (goes_over AList v (counted n f))) ]

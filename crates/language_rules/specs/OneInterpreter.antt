@@ -12,6 +12,7 @@ use Rattle.host_api.specs.Modules.{Module}
 use Rattle.side_trees.specs.Sides.{Message, Item, Sends, Shows, Event, Half, idling, half, shown}
 use Rattle.side_trees.specs.SharedRun.{Side, A, B, other, Two, part, Text, Entry, Puts, Begins, Course, Rests, Leaves, Dry, wrote, one, log_of}
 use Rattle.language_rules.specs.Codes.{Completion, Gives, Raises}
+use Rattle.language_rules.specs.Comparing.{same_identity}
 use Rattle.language_rules.specs.Going.{done}
 use Rattle.language_rules.specs.Conversation.{script_language, one_heap}
 use Rattle.language_rules.specs.References.{in_turn, identities_in}
@@ -113,10 +114,6 @@ talk c = reverse (messages_of (log_of_course c)) ++ closing (run_end c)
 -- one side of the heap: its cells, each value as that side sees it
 abbrev pub split : Side → SharedHeap → List Cell
 split h w = cells_of h w.cells
-
--- whether this is the identity of that cell of one's own
-abbrev pub same_identity : IdPack → IdPack → Bool
-same_identity i j = bytes_eq i.name j.name && (i.class_no == j.class_no) && (i.inst_no == j.inst_no)
 
 -- the numbers from 1 to n that pass a test
 abbrev pub numbers_that : (ℕ → Bool) → ℕ → List ℕ
