@@ -6,6 +6,7 @@ pub mod PairExamples
 pub mod Showing
 pub mod SoloExamples
 pub mod TextExamples
+pub mod TextLaws
 pub mod callback_a
 pub mod callback_b
 pub mod closure
