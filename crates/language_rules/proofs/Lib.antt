@@ -3,6 +3,7 @@ pub mod CollectionExamples
 pub mod ExceptionLaw
 pub mod ExpressionExamples
 pub mod PairExamples
+pub mod ScriptExamples
 pub mod Showing
 pub mod SoloExamples
 pub mod TextExamples
@@ -22,9 +23,12 @@ pub mod keys_a
 pub mod keys_b
 pub mod lookup_a
 pub mod lookup_b
+pub mod methods
 pub mod nested_a
 pub mod nested_b
 pub mod one
+pub mod operators
 pub mod raised_a
 pub mod raised_b
+pub mod refused
 pub mod widest

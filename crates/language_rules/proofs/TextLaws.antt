@@ -1,14 +1,14 @@
 -- The functions on texts give what their relations ask for.
-use Rattle.std.proofs.Common.{◌≡◌, ◌↔◌, ℕ, zero, suc, ◌+◌, ◌-◌, ◌<◌, ◌≤◌, Bool, true, false, not, ◌&&◌, ◌==◌, List, [], ◌∷◌, ◌++◌, Option, Some, None, option_map, length, take, drop, reverse, slice_get, nat_lt, ℤ, pos, negsuc, ◌+ℤ◌, ltb-false, MatchOption, IsTrue, refl, sym, ap, ap₂, subst, ◌∙◌, arith, append_assoc, length-append, length-drop, if◌then◌else◌, eqb-true, eq-eqb}
+use Rattle.std.proofs.Common.{◌≡◌, ◌↔◌, ℕ, zero, suc, ◌+◌, ◌<◌, ◌≤◌, Bool, true, false, not, ◌==◌, List, [], ◌∷◌, ◌++◌, Option, Some, None, option_map, length, take, drop, reverse, slice_get, nat_lt, ℤ, pos, negsuc, ◌+ℤ◌, ltb-false, IsTrue, refl, sym, ap, ap₂, subst, ◌∙◌, arith, length-append, if◌then◌else◌, eqb-true, eq-eqb}
 use Rattle.std.proofs.lemmas.Bool.{and_from, and_parts}
 use Rattle.std.specs.Option.{option_and_then}
 use Rattle.std.proofs.lemmas.Option.{slice_get_past}
 use Rattle.std.proofs.lemmas.List.{reverse-append, reverse-reverse, take_at}
 use Rattle.std.proofs.Math.Seq.{drop-append_seam, drop-append-add}
 use Rattle.py_strs.specs.Searching.{BeginsWith, EndsIn, StandsAt, IsLeastPlace, character_behind, character_at}
-use Rattle.py_strs.specs.Spaces.{is_space, all_spaces, no_spaces, begins_bare, ends_bare, IsStripped}
+use Rattle.py_strs.specs.Spaces.{is_space, all_spaces, no_spaces, begins_bare, IsStripped}
 use Rattle.py_strs.specs.Splitting.{IsSplit, IsWords, is_spaced}
-use Rattle.language_rules.specs.TextFunctions.{begins_with, ends_in, least_place, pieces_within, pieces, words_with, lengthened, words, without_front, stripped, below, place_among}
+use Rattle.language_rules.specs.TextFunctions.{begins_with, ends_in, least_place, pieces_within, pieces, lengthened, words, without_front, stripped, below, place_among}
 
 contrary : {A : Type 0} (b : Bool) → b ≡ true → b ≡ false → A
 contrary true h k = cc
