@@ -21,6 +21,7 @@ use Rattle.py_store.specs.declared.cell.Cell.TheVariants as cell
 use Rattle.object_operations.specs.declared.operation.Operation.{Operation}
 use Rattle.py_plain.specs.Computing.{plain_computing}
 use Rattle.side_trees.specs.Trees.{Ended, Return, Done, Stopped, run}
+use Rattle.language_rules.specs.Comparing.{plain_equals, equals_step}
 use Rattle.language_rules.specs.Codes.{Env, Code, Node as NodeCode, Give, Completion, Gives, Raises}
 use Rattle.language_rules.specs.States.{State}
 use Rattle.language_rules.specs.Texts.{node_at}
@@ -100,6 +101,32 @@ not_zero = refl
 pub first_branch : ends choice [] (evaluate 6) ≡ comes_to choice [] (text []) 98 []
 unfolding plain_computing
 first_branch = refl
+
+-- True in (0, 1), True not in (0, 1), None is None, 0 is not None
+abbrev tests : List Expression
+tests =
+    expression.Constant (plain.Bool true) ∷ int 0 ∷ int 1 ∷ expression.Tuple (1 ∷ 2 ∷ []) ∷ expression.Constant plain.None ∷
+    expression.Compare 0 (record { comparison = comparison.In; line = 1; right = 3 } ∷ []) ∷
+    expression.Compare 0 (record { comparison = comparison.NotIn; line = 1; right = 3 } ∷ []) ∷
+    expression.Compare 4 (record { comparison = comparison.Is; line = 1; right = 4 } ∷ []) ∷
+    expression.Compare 1 (record { comparison = comparison.IsNot; line = 1; right = 4 } ∷ []) ∷
+    []
+
+pub one_within : ends tests [] (evaluate 5) ≡ comes_to tests [] (boolean true) 96 []
+unfolding plain_computing plain_equals equals_step
+one_within = refl
+
+pub one_not_within : ends tests [] (evaluate 6) ≡ comes_to tests [] (boolean false) 96 []
+unfolding plain_computing plain_equals equals_step
+one_not_within = refl
+
+pub none_is_none : ends tests [] (evaluate 7) ≡ comes_to tests [] (boolean true) 98 []
+unfolding plain_computing
+none_is_none = refl
+
+pub zero_is_not_none : ends tests [] (evaluate 8) ≡ comes_to tests [] (boolean true) 98 []
+unfolding plain_computing
+zero_is_not_none = refl
 
 -- {1: 2, True: 3}: the first spelling stays, with the last value; {[]: 1} has a key that is not plain; ([],)
 abbrev displays : List Expression

@@ -6,6 +6,7 @@ pub mod ExpressionExamples
 pub mod ObjectExamples
 pub mod PairExamples
 pub mod ServiceExamples
+pub mod ScriptExamples
 pub mod Showing
 pub mod SoloExamples
 pub mod StatementExamples
@@ -16,6 +17,7 @@ pub mod account_a
 pub mod account_b
 pub mod back_a
 pub mod back_b
+pub mod TextLaws
 pub mod callback_a
 pub mod callback_b
 pub mod closure
@@ -36,12 +38,15 @@ pub mod keys_a
 pub mod keys_b
 pub mod lookup_a
 pub mod lookup_b
+pub mod methods
 pub mod nested_a
 pub mod nested_b
 pub mod one
+pub mod operators
 pub mod raised_a
 pub mod raised_b
 pub mod raises_a
 pub mod raises_b
 pub mod texts_a
+pub mod refused
 pub mod widest

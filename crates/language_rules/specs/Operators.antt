@@ -34,7 +34,7 @@ left_out false = unsupported
 
 -- ---- unary operators
 
--- `-` of an object is asked of it; no object has `+` or `~`
+-- a unary operator ("Unary arithmetic and bitwise operations"): `-` of an object is asked of it, and no object has `+` or `~`
 abbrev pub unary_rule : UnaryOp → Value → RuleTree
 unary_rule o (value.Plain p) = answers (unary o p)
 unary_rule unary_op.Neg v = if is_reference v then asked (operation.Special v special.Neg []) else unsupported
@@ -80,6 +80,7 @@ value_rule o a b = tuple_rule o a b
 abbrev pub Operand : Type 0
 Operand = Value × Option Kind
 
+-- a dict, and the namespace, which is one; a view of a dict; a class; a list
 abbrev pub is_dict : Operand → Bool
 is_dict (v, Some kind.Dict) = true
 is_dict (v, Some kind.Namespace) = true
@@ -127,6 +128,7 @@ is_defined op.Mul a b = is_some (as_int a.0) && is_list b
 is_defined op.Mod a b = is_format a.0
 is_defined _ a b = false
 
+-- what becomes of an operator that is decided where the code runs: nothing is asked, and no unit is due
 abbrev pub unasked_rule : BinaryOp → Value → Value → RuleTree
 unasked_rule o a b = on_kind a (λ k. on_kind b (λ l. left_out (is_defined o (a, k) (b, l))))
 
@@ -141,11 +143,12 @@ special_for op.FloorDiv = Some special.FloorDiv
 special_for op.Mod = Some special.Mod
 special_for _ = None
 
+-- an object on the left is asked where the operator has a name to ask by
 abbrev pub object_rule : Option Special → BinaryOp → Value → Value → RuleTree
 object_rule (Some s) o a b = asked (operation.Special a s (b ∷ []))
 object_rule None o a b = unasked_rule o a b
 
--- an object on the left is asked, whatever its kind; nothing is asked of an object that stands on the right alone
+-- a binary operator ("Binary arithmetic operations", "Shifting operations", "Binary bitwise operations"); nothing is asked of an object that stands on the right alone
 abbrev pub binary_rule : BinaryOp → Value → Value → RuleTree
 binary_rule o a b =
     if is_reference a then object_rule (special_for o) o a b
@@ -157,7 +160,7 @@ binary_rule o a b =
 abbrev pub update_rule : Value → RuleTree
 update_rule b = on_kind b (λ l. left_out (is_iterable (b, l) || is_class (b, l)))
 
--- what an augmented assignment binds, by the kind of its left side
+-- What `x op= y` binds, by the kind of x ("Augmented assignment statements"). `+=` of a list is `__iadd__`; `*=` of a list and `|=` of a dict are decided where the code runs; all else is the binary operator.
 abbrev pub augmented_at : BinaryOp → Value → Value → Option Kind → RuleTree
 augmented_at op.Add a b (Some kind.List) = asked (operation.Special a special.IAdd (b ∷ []))
 augmented_at op.Mul a b (Some kind.List) = left_out (is_some (as_int b))
