@@ -1,5 +1,5 @@
 -- What a side boxes is read as the value that the other side sees.
-use Rattle.std.proofs.Common.{◌≡◌, ℕ, pos, List, [], ◌∷◌, map, Option, Some, None, option_map, refl, sym, ◌∙◌, ap, subst}
+use Rattle.std.proofs.Common.{◌≡◌, ℕ, pos, List, [], ◌∷◌, map, Option, Some, option_map, refl, sym, ◌∙◌, ap, subst}
 use denote.Hole.Carrier
 use Rattle.rp_base.specs.declared.identity.IdPack.{IdPack}
 use Rattle.rp_base.specs.declared.plain.Plain.{Plain, roll-Plain}

@@ -1,12 +1,8 @@
 -- More worked pairs: dicts, loops over the other side's collections, printing across sides.
-use Rattle.std.proofs.Common.{◌≡◌, ℕ, pos, List, [], ◌∷◌, ◌++◌, codes, refl}
-use Rattle.rp_base.specs.declared.exceptions.Beyond.TheVariants as beyond
-use Rattle.rp_base.specs.declared.handlers.Handler.TheVariants as handler
-use Rattle.rp_base.specs.declared.plain.Plain.TheVariants as plain
-use Rattle.side_trees.specs.SharedRun.{A, B}
+use Rattle.std.proofs.Common.{◌≡◌, [], ◌++◌, codes, refl}
 use Rattle.language_rules.specs.Computing.{rules_computing}
-use Rattle.language_rules.specs.OneInterpreter.{heap_of, talk, crossing, Closes, EndsDone, EndsOutOfFuel, EndsRaised, EndsBeyond}
-use Rattle.language_rules.proofs.Showing.{Shown, pair, pair_shown, alone_shown, line, asks, replies, excepts, by_value, boxes, yours, mine, named, arguments_of, connecting, asks_name}
+use Rattle.language_rules.specs.OneInterpreter.{EndsDone}
+use Rattle.language_rules.proofs.Showing.{pair_shown, line}
 use Rattle.language_rules.proofs.drain_a.{drain_a}
 use Rattle.language_rules.proofs.drain_b.{drain_b}
 use Rattle.language_rules.proofs.keys_a.{keys_a}

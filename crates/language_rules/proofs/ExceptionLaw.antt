@@ -4,7 +4,6 @@ use Rattle.rp_base.specs.declared.exceptions.ExcKind.{ExcKind}
 use Rattle.rp_base.specs.declared.exceptions.ExcKind.TheVariants as kind
 use Rattle.rp_base.specs.declared.exceptions.Raised.{Raised}
 use Rattle.rp_base.specs.declared.plain.Plain.{Plain}
-use Rattle.rp_base.specs.declared.plain.Plain.TheOpen.{Plain-F}
 use Rattle.rp_base.specs.declared.plain.Plain.TheVariants as plain
 use Rattle.rp_base.specs.Names.{exception_name}
 use Rattle.rp_base.specs.PlainLaws.{look_tuple}

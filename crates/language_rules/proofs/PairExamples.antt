@@ -1,12 +1,11 @@
 -- Worked pairs of scripts: what the one interpreter over the shared heap makes of them, computed.
-use Rattle.std.proofs.Common.{◌≡◌, ℕ, pos, List, [], ◌∷◌, ◌++◌, codes, refl}
-use Rattle.rp_base.specs.declared.exceptions.Beyond.TheVariants as beyond
+use Rattle.std.proofs.Common.{◌≡◌, pos, [], ◌∷◌, ◌++◌, codes, refl}
 use Rattle.rp_base.specs.declared.handlers.Handler.TheVariants as handler
 use Rattle.rp_base.specs.declared.plain.Plain.TheVariants as plain
 use Rattle.side_trees.specs.SharedRun.{A, B}
 use Rattle.language_rules.specs.Computing.{rules_computing}
-use Rattle.language_rules.specs.OneInterpreter.{heap_of, talk, crossing, Closes, EndsDone, EndsOutOfFuel, EndsRaised, EndsBeyond}
-use Rattle.language_rules.proofs.Showing.{Shown, pair, pair_shown, alone_shown, line, asks, replies, excepts, by_value, boxes, yours, mine, named, arguments_of, connecting, asks_name}
+use Rattle.language_rules.specs.OneInterpreter.{heap_of, talk, crossing, Closes, EndsDone, EndsOutOfFuel}
+use Rattle.language_rules.proofs.Showing.{pair, pair_shown, line, asks, replies, by_value, boxes, yours, mine, arguments_of, connecting, asks_name}
 use Rattle.language_rules.proofs.callback_a.{callback_a}
 use Rattle.language_rules.proofs.callback_b.{callback_b}
 use Rattle.language_rules.proofs.first_a.{first_a}

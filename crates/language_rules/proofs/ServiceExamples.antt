@@ -1,17 +1,15 @@
 -- Worked pairs with modules, texts that run at the root, and ends by exceptions.
-use Rattle.std.proofs.Common.{◌≡◌, ℕ, pos, List, [], ◌∷◌, ◌++◌, codes, refl}
+use Rattle.std.proofs.Common.{◌≡◌, List, [], ◌∷◌, ◌++◌, codes, refl}
 use Rattle.rp_base.specs.declared.exceptions.Beyond.TheVariants as beyond
-use Rattle.rp_base.specs.declared.handlers.Handler.TheVariants as handler
 use Rattle.rp_base.specs.declared.plain.Plain.TheVariants as plain
-use Rattle.side_trees.specs.SharedRun.{A, B}
+use Rattle.side_trees.specs.SharedRun.{B}
 use Rattle.host_api.specs.Computing.{host_computing}
 use Rattle.language_rules.specs.Computing.{rules_computing}
-use Rattle.language_rules.specs.OneInterpreter.{heap_of, talk, crossing, Closes, EndsDone, EndsOutOfFuel, EndsRaised, EndsBeyond}
-use Rattle.language_rules.proofs.Showing.{Shown, pair, pair_shown, alone_shown, line, asks, replies, excepts, by_value, boxes, yours, mine, named, arguments_of, connecting, asks_name}
+use Rattle.language_rules.specs.OneInterpreter.{EndsDone, EndsRaised, EndsBeyond}
+use Rattle.language_rules.proofs.Showing.{pair_shown, alone_shown, line}
 use Rattle.std.specs.Str.{bytes_eq}
-use Rattle.std.proofs.Common.{if◌then◌else◌, Option, Some, None}
+use Rattle.std.proofs.Common.{if◌then◌else◌, Some, None}
 use Rattle.rp_base.specs.declared.exceptions.ExcKind.TheVariants as exception
-use Rattle.py_ast.specs.declared.program.Program.{Program}
 use Rattle.host_api.specs.Modules.{Module}
 use Rattle.host_api.specs.Counter.{counter_module}
 use Rattle.host_api.specs.Journal.{journal_module}

@@ -1,11 +1,10 @@
 -- How worked scripts are shown: what a report says, and the conversation.
-use Rattle.std.proofs.Common.{ℕ, ◌-◌, pos, List, [], ◌∷◌, ◌++◌, codes, length, Option, Some, None}
+use Rattle.std.proofs.Common.{ℕ, ◌-◌, pos, List, [], ◌∷◌, ◌++◌, codes, length, None}
 use Rattle.rp_base.specs.declared.handlers.Handler.{Handler}
 use Rattle.rp_base.specs.declared.handlers.Handler.TheVariants as handler
 use Rattle.rp_base.specs.declared.plain.Plain.{Plain}
 use Rattle.rp_base.specs.declared.plain.Plain.TheVariants as plain
 use Rattle.py_ast.specs.declared.program.Program.{Program}
-use Rattle.host_api.specs.Modules.{Module}
 use Rattle.side_trees.specs.Sides.{Request, Reply}
 use Rattle.side_trees.specs.SharedRun.{Side, A, B}
 use Rattle.language_rules.specs.Boxing.{labelled}

@@ -1,12 +1,9 @@
 -- Worked scripts that run alone, computed.
-use Rattle.std.proofs.Common.{◌≡◌, ℕ, pos, List, [], ◌∷◌, ◌++◌, codes, refl}
+use Rattle.std.proofs.Common.{◌≡◌, [], ◌++◌, codes, refl}
 use Rattle.rp_base.specs.declared.exceptions.Beyond.TheVariants as beyond
-use Rattle.rp_base.specs.declared.handlers.Handler.TheVariants as handler
-use Rattle.rp_base.specs.declared.plain.Plain.TheVariants as plain
-use Rattle.side_trees.specs.SharedRun.{A, B}
 use Rattle.language_rules.specs.Computing.{rules_computing}
-use Rattle.language_rules.specs.OneInterpreter.{heap_of, talk, crossing, Closes, EndsDone, EndsOutOfFuel, EndsRaised, EndsBeyond}
-use Rattle.language_rules.proofs.Showing.{Shown, pair, pair_shown, alone_shown, line, asks, replies, excepts, by_value, boxes, yours, mine, named, arguments_of, connecting, asks_name}
+use Rattle.language_rules.specs.OneInterpreter.{EndsDone, EndsOutOfFuel, EndsBeyond}
+use Rattle.language_rules.proofs.Showing.{alone_shown, line}
 use Rattle.language_rules.proofs.closure.{closure}
 use Rattle.language_rules.proofs.cyclic.{cyclic}
 use Rattle.language_rules.proofs.keys.{keys}

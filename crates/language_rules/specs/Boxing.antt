@@ -1,6 +1,6 @@
 -- How values cross, after the boxing of RPyC's module `protocol`: a box is a pair of a label and a content.
 -- 1 a plain value, 2 a tuple with a reference in it, 3 an object of the receiver, 4 an object of the sender.
-use Rattle.std.specs.Prelude.{ℕ, ◌==◌, ℤ, pos, negsuc, List, [], ◌∷◌, map, Option, Some, None, option_map, if◌then◌else◌}
+use Rattle.std.specs.Prelude.{ℕ, ◌==◌, pos, List, [], ◌∷◌, map, Option, Some, None, option_map, if◌then◌else◌}
 use Rattle.rp_base.specs.declared.identity.IdPack.{IdPack}
 use Rattle.rp_base.specs.declared.plain.Plain.{Plain}
 use Rattle.rp_base.specs.declared.plain.Plain.TheOpen.{Plain-F}

@@ -4,7 +4,7 @@ use Rattle.rp_base.specs.declared.exceptions.Beyond.{Beyond}
 use Rattle.object_operations.specs.declared.operation.Operation.{Operation}
 use Rattle.side_trees.specs.Sides.{Lang}
 use Rattle.side_trees.specs.SharedRun.{Heap}
-use Rattle.language_rules.specs.Codes.{Code, Completion, Gives, Raises}
+use Rattle.language_rules.specs.Codes.{Code, Completion, Raises}
 use Rattle.language_rules.specs.Messages.{Asked, Answer, request_of, code_of, answer_of, completion_of}
 use Rattle.language_rules.specs.Rules.{expand}
 use Rattle.language_rules.specs.SharedCells.{SharedHeap, seen_by, changed_by, seen_changed, seen_across}

@@ -1,5 +1,5 @@
 -- Going over a whole collection, and unpacking it (Python Language Reference, "Assignment statements"; Python Library Reference, "Iterator Types").
-use Rattle.std.specs.Prelude.{if◌then◌else◌, ℕ, zero, suc, Result, Ok, Err, ◌==◌, true, false, nat_lt, pos, List, [], ◌∷◌, ◌++◌, map, length, codes, Option, Some, None, chars, encode_utf8_all}
+use Rattle.std.specs.Prelude.{if◌then◌else◌, ℕ, Result, Err, ◌==◌, true, false, nat_lt, pos, List, [], ◌∷◌, ◌++◌, map, length, codes, Option, Some, None, chars, encode_utf8_all}
 use Rattle.rp_base.specs.declared.exceptions.Beyond.{Beyond}
 use Rattle.rp_base.specs.declared.exceptions.Beyond.TheVariants as beyond
 use Rattle.rp_base.specs.declared.exceptions.ExcKind.{ExcKind}
@@ -12,14 +12,13 @@ use Rattle.rp_base.specs.declared.value.Value.{Value}
 use Rattle.rp_base.specs.declared.value.Value.TheVariants as value
 use Rattle.rp_base.specs.declared.ends.TupleEnd.{TupleEnd}
 use Rattle.rp_base.specs.declared.ends.TupleEnd.TheVariants as tuple_end
-use Rattle.rp_base.specs.Values.{tuple_of, heaviest_value}
+use Rattle.rp_base.specs.Values.{tuple_of}
 use Rattle.object_operations.specs.declared.operation.Operation.TheVariants as operation
 use Rattle.object_operations.specs.declared.special.Special.TheVariants as special
 use Rattle.side_trees.specs.Trees.{Return, Stop, bind}
 use Rattle.language_rules.specs.Codes.{Completion, Gives, Raises, Drained, Container, AList, ATuple, DrainNext}
-use Rattle.language_rules.specs.Going.{RuleTree, text, fails, type_error, on_items, operates, asks, carry}
+use Rattle.language_rules.specs.Going.{RuleTree, text, fails, type_error, on_items, operates, asks}
 use Rattle.language_rules.specs.Kinds.{on_kind}
-use Rattle.language_rules.specs.Truth.{nowhere_step}
 use Rattle.language_rules.specs.Comparing.{tuple_items}
 
 -- ---- at hand

@@ -1,5 +1,5 @@
 -- Exceptions as they cross, after RPyC's module `vinegar`.
-use Rattle.std.specs.Prelude.{ℕ, ℤ, pos, List, [], ◌∷◌, codes, map, Option, Some, None, if◌then◌else◌}
+use Rattle.std.specs.Prelude.{pos, List, [], ◌∷◌, codes, map, Option, Some, None, if◌then◌else◌}
 use Rattle.std.specs.Str.{bytes_eq}
 use Rattle.rp_base.specs.declared.exceptions.ExcKind.{ExcKind}
 use Rattle.rp_base.specs.declared.exceptions.ExcKind.TheVariants as kind

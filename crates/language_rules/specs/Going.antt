@@ -1,5 +1,5 @@
 -- How clauses are put together: trees of the language, and what goes on after a value.
-use Rattle.std.specs.Prelude.{ℕ, suc, ◌+◌, Bool, true, false, nat_lt, List, [], ◌∷◌, map, sum, length, codes, Option, Some, None, if◌then◌else◌}
+use Rattle.std.specs.Prelude.{ℕ, ◌+◌, Bool, true, false, nat_lt, List, [], ◌∷◌, map, sum, Option, Some, None, if◌then◌else◌}
 use Rattle.rp_base.specs.declared.exceptions.Beyond.{Beyond}
 use Rattle.rp_base.specs.declared.exceptions.Beyond.TheVariants as beyond
 use Rattle.rp_base.specs.declared.exceptions.ExcKind.{ExcKind}
@@ -13,8 +13,8 @@ use Rattle.rp_base.specs.Values.{weight_of, heaviest_value}
 use Rattle.py_store.specs.declared.cell.Cell.{Cell}
 use Rattle.object_operations.specs.declared.operation.Operation.{Operation}
 use Rattle.object_operations.specs.declared.operation.Operation.TheVariants as operation
-use Rattle.side_trees.specs.Trees.{Tree, Return, Act, Tell, Stop, Spend, Do, Ask}
-use Rattle.language_rules.specs.Codes.{Env, Completion, Gives, Raises, Returns, Breaks, Continues, Drained, Code, Node, Perform, Give, Then, Go, Step, Ends, Leaves, Asks}
+use Rattle.side_trees.specs.Trees.{Tree, Return, Act, Stop, Spend, Do, Ask}
+use Rattle.language_rules.specs.Codes.{Env, Completion, Gives, Raises, Drained, Code, Node, Perform, Give, Then, Go, Step, Ends, Leaves, Asks}
 use Rattle.language_rules.specs.States.{State, cell_at, next_cell, with_cell, set_cell}
 
 abbrev pub RuleTree : Type 0

@@ -1,6 +1,5 @@
 -- The one interpreter over the shared heap, and one script alone.
-use Rattle.std.specs.Prelude.{◌≡◌, ℕ, suc, ◌+◌, ◌-◌, ◌==◌, Bool, true, ◌&&◌, List, [], ◌∷◌, ◌++◌, length, reverse, Contains, zero, ◌<◌, ◌≤◌, Option, Some, None, if◌then◌else◌}
-use Rattle.std.specs.Str.{bytes_eq}
+use Rattle.std.specs.Prelude.{◌≡◌, ℕ, suc, Bool, List, [], ◌∷◌, ◌++◌, length, reverse, Contains, zero, ◌<◌, ◌≤◌, if◌then◌else◌}
 use Rattle.std.specs.List.{list_any}
 use Rattle.rp_base.specs.declared.exceptions.Beyond.{Beyond}
 use Rattle.rp_base.specs.declared.exceptions.Raised.{Raised}
@@ -9,16 +8,15 @@ use Rattle.py_ast.specs.declared.program.Program.{Program}
 use Rattle.py_store.specs.declared.cell.Cell.{Cell}
 use Rattle.py_store.specs.Identities.{identity_of}
 use Rattle.host_api.specs.Modules.{Module}
-use Rattle.side_trees.specs.Sides.{Message, Item, Sends, Shows, Event, Half, idling, half, shown}
-use Rattle.side_trees.specs.SharedRun.{Side, A, B, other, Two, part, Text, Entry, Puts, Begins, Course, Rests, Leaves, Dry, wrote, one, log_of}
-use Rattle.language_rules.specs.Codes.{Completion, Gives, Raises}
+use Rattle.side_trees.specs.Sides.{Message, Sends, Shows, Event, Half, idling, half, shown}
+use Rattle.side_trees.specs.SharedRun.{Side, A, B, other, Two, Text, Entry, Puts, Begins, Course, Rests, Leaves, Dry, wrote, one, log_of}
+use Rattle.language_rules.specs.Codes.{Completion, Raises}
 use Rattle.language_rules.specs.Comparing.{same_identity}
 use Rattle.language_rules.specs.Going.{done}
 use Rattle.language_rules.specs.Conversation.{script_language, one_heap}
 use Rattle.language_rules.specs.References.{in_turn, identities_in}
-use Rattle.language_rules.specs.SharedCells.{HomeCell, cell_at_home, added, SharedHeap, cells_of}
+use Rattle.language_rules.specs.SharedCells.{added, SharedHeap, cells_of}
 use Rattle.language_rules.specs.Starting.{Reader, first_cells, first_state, text_of, connected_text_of}
-use Rattle.language_rules.specs.States.{State}
 
 -- ---- the start
 

@@ -1,19 +1,15 @@
 -- A side at its start, and how its script begins.
-use Rattle.std.specs.Prelude.{ℕ, suc, ◌+◌, List, [], ◌∷◌, ◌++◌, codes, map, length, Option, Some, None}
-use Rattle.rp_base.specs.declared.value.Value.{Value}
+use Rattle.std.specs.Prelude.{ℕ, suc, List, [], ◌∷◌, codes, Option, Some}
 use Rattle.rp_base.specs.declared.value.Value.TheVariants as value
 use Rattle.py_ast.specs.declared.program.Program.{Program}
 use Rattle.py_store.specs.declared.cell.Cell.{Cell}
 use Rattle.py_store.specs.declared.cell.Cell.TheVariants as cell
-use Rattle.py_store.specs.Bindings.{with_binding}
 use Rattle.host_api.specs.Modules.{Module}
 use Rattle.object_operations.specs.declared.operation.Operation.TheVariants as operation
-use Rattle.side_trees.specs.Trees.{Return, bind}
-use Rattle.language_rules.specs.Codes.{Completion, Gives}
-use Rattle.language_rules.specs.Going.{RuleTree, none, makes, sets_cell, asks, changes, reads_cell, nowhere}
+use Rattle.language_rules.specs.Going.{RuleTree, none, makes, sets_cell, asks, reads_cell}
 use Rattle.language_rules.specs.Names.{namespace_number, binds_global}
 use Rattle.language_rules.specs.Programs.{begins_text}
-use Rattle.language_rules.specs.States.{State, set_cell}
+use Rattle.language_rules.specs.States.{State}
 
 -- what texts are accepted as: scripts, and single expressions
 pub record Reader : Type 0 where

@@ -1,5 +1,5 @@
 -- A side's own state: its cells, what it has printed, its texts, and what is under way.
-use Rattle.std.specs.Prelude.{ℕ, zero, suc, ◌-◌, Bool, List, [], ◌∷◌, ◌++◌, length, slice_get, slice_set, Option, Some, None}
+use Rattle.std.specs.Prelude.{ℕ, zero, suc, ◌-◌, Bool, List, [], ◌∷◌, ◌++◌, length, slice_get, slice_set, Option, None}
 use Rattle.rp_base.specs.declared.exceptions.Raised.{Raised}
 use Rattle.py_ast.specs.declared.program.Program.{Program}
 use Rattle.py_store.specs.declared.cell.Cell.{Cell}
