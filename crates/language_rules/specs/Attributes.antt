@@ -23,8 +23,7 @@ use Rattle.side_trees.specs.Trees.{Return, Stop}
 use Rattle.language_rules.specs.Answers.{gives, asked}
 use Rattle.language_rules.specs.Going.{RuleTree, text, done, nowhere, fails, looks, reads_cell, sets_cell, gives_new, asks}
 use Rattle.language_rules.specs.Kinds.{kind_of}
-use Rattle.language_rules.specs.Names.{namespace_number}
-use Rattle.language_rules.specs.States.{State, cell_at}
+use Rattle.language_rules.specs.States.{State, cell_at, namespace_number}
 use Rattle.language_rules.specs.TextFunctions.{begins_with}
 
 -- a name that begins with two underscores ("Reserved classes of identifiers") is no attribute of anything

@@ -15,10 +15,10 @@ use Rattle.py_store.specs.declared.cell.Cell.{Cell}
 use Rattle.py_store.specs.declared.cell.Cell.TheVariants as cell
 use Rattle.side_trees.specs.Trees.{Return, Stop, Spend}
 use Rattle.language_rules.specs.Codes.{Env, Gives, Member}
-use Rattle.language_rules.specs.States.{MadeClass, State, cell_at}
+use Rattle.language_rules.specs.States.{MadeClass, State, cell_at, namespace_number}
 use Rattle.language_rules.specs.Going.{RuleTree, nowhere, done, looks, changes, makes, gives_new, on_value, evaluates}
 use Rattle.language_rules.specs.Texts.{on_statement, on_target, on_suite, on_function}
-use Rattle.language_rules.specs.Names.{namespace_number, binds_name}
+use Rattle.language_rules.specs.Names.{binds_name}
 
 -- ---- the base
 

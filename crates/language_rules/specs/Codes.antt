@@ -25,14 +25,14 @@ pub data Completion : Type 0 where
 pub data Container : Type 0 where
   AList ATuple : Container
 
--- Node: an expression or a statement of a text. Member: a statement of a class body. Perform: an operation, at the home of its receiver.
--- Give: nothing but this end. Then: a piece of code, and then the one that goes on after it. Go: a step.
--- WhileTest: a turn of a `while` from its test on. ForNext: a turn of a `for` from the answer of `__next__` on.
--- DrainNext: the going over a collection, from an answer of `__next__` on, with the items so far.
--- SearchNext: a search in a list, from the answer for the item at a position on. ValuesNext: the same in the values of a dict.
--- ListText, DictText: the printing of a list or a dict, from the text of an item on. EqualItem: the comparison of a list with another list, from the other's item on.
--- AddItem: a list and then another list, from the other's item on.
--- AttributeCall: an attribute and then its call. Inspect: the methods of a cell.
+-- Node env number: an expression or a statement of a text. Member env number: a statement of a class body. Perform o: an operation, at the home of its receiver.
+-- Give a: nothing but this end. Then c f: a piece of code, and then the one that goes on after its end. Go t: a step.
+-- WhileTest env test body: a turn of a `while` from its test on. ForNext env target body iterator a: a turn of a `for` from the answer of `__next__` on.
+-- DrainNext container iterator items a: the going over a collection, from an answer of `__next__` on, with the items so far.
+-- SearchNext list position x a: a search in a list, from the answer for the item at a position on. ValuesNext dict position x a: the same in the values of a dict.
+-- ListText list position made a, DictText dict shape position made a: the printing of a list or a dict, from the text of an item on.
+-- EqualItem list other op count position a: the comparison of a list with another, from the other's item on. AddItem other count position made a: a list and then another, from the other's item on.
+-- AttributeCall receiver name arguments: an attribute and then its call. Inspect number: the methods of a cell.
 -- A step ends at once, leaves the subset, or asks an operation and goes on as code.
 mutual
   pub data Code : Type 0 where

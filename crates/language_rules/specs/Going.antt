@@ -50,9 +50,9 @@ fails k t = raises k (plain.Text t ∷ [])
 abbrev pub type_error : List ℕ → RuleTree
 type_error t = fails kind.TypeError t
 
--- what no state comes to in which each number names what it should
+-- What no state comes to in which each number names what it should. No rule gives this end otherwise.
 abbrev pub nowhere : RuleTree
-nowhere = Stop beyond.Attribute
+nowhere = Stop beyond.NotYet
 
 -- ---- the state
 

@@ -24,7 +24,7 @@ use Rattle.language_rules.specs.ExceptionContents.{exception_content, raised_in}
 use Rattle.language_rules.specs.Going.{none, text, raised}
 use Rattle.language_rules.specs.States.{State}
 
--- a request: its handler, and the box of its arguments
+-- A request that costs a unit: its handler, and the box of its arguments. PING, DEL and CLOSE are none: they cost nothing, and a side answers them outside its conversation.
 pub record Asked : Type 0 where
   pub handler : Handler
   pub arguments : Plain

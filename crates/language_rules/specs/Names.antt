@@ -9,13 +9,9 @@ use Rattle.py_store.specs.declared.cell.Cell.{Cell}
 use Rattle.py_store.specs.declared.cell.Cell.TheVariants as cell
 use Rattle.side_trees.specs.Trees.{Stop}
 use Rattle.language_rules.specs.Codes.{Env}
-use Rattle.language_rules.specs.States.{State, cell_at}
+use Rattle.language_rules.specs.States.{State, cell_at, namespace_number}
 use Rattle.language_rules.specs.Going.{RuleTree, nowhere, fails, looks, sets_cell}
 use Rattle.language_rules.specs.Texts.{has_name, function_at}
-
--- a side's first cell holds its global names
-abbrev pub namespace_number : ℕ
-namespace_number = 1
 
 -- ---- where a name is (Language Reference, "Resolution of names")
 

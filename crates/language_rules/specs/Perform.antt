@@ -23,6 +23,7 @@ use Rattle.language_rules.specs.Lengths.{length_rule, truth_rule}
 use Rattle.language_rules.specs.PlainItems.{no_items}
 use Rattle.language_rules.specs.Printing.{cell_str, cell_repr}
 use Rattle.language_rules.specs.RootMethods.{root_method}
+use Rattle.language_rules.specs.States.{root_number}
 
 -- the root's `getmodule` takes whatever it is given
 abbrev pub module_rule : List Value → Cell → RuleTree
@@ -61,13 +62,9 @@ abbrev pub special_rule : Special → Value → List Value → RuleTree
 special_rule operator (value.Own n) arguments = reads_cell n (special_of_cell operator n arguments)
 special_rule operator v arguments = special_of_plain operator v arguments
 
--- a side's second cell is its root
-abbrev pub root_cell : ℕ
-root_cell = 2
-
 -- the root, which is a side's second cell
 abbrev pub gives_root : Cell → RuleTree
-gives_root cell.Root = gives (value.Own root_cell)
+gives_root cell.Root = gives (value.Own root_number)
 gives_root _ = nowhere
 
 -- comparing and printing are asked of objects alone
@@ -87,7 +84,7 @@ repr_rule _ = nowhere
 
 -- the operation, after its unit
 abbrev pub perform : Operation → RuleTree
-perform operation.GetRoot = reads_cell root_cell gives_root
+perform operation.GetRoot = reads_cell root_number gives_root
 perform (operation.GetAttr receiver name) = get_attribute receiver name
 perform (operation.SetAttr receiver name v) = set_attribute receiver name v
 perform (operation.DelAttr receiver name) = delete_attribute receiver name

@@ -1,5 +1,5 @@
 -- How a text runs (Python Language Reference, "Structure of a program").
-use Rattle.std.specs.Prelude.{ℕ, Bool, true, false, List, [], ◌∷◌, ◌++◌, length, Option, Some, None, if◌then◌else◌}
+use Rattle.std.specs.Prelude.{ℕ, ◌==◌, ◌&&◌, ◌||◌, Bool, true, false, List, [], ◌∷◌, ◌++◌, length, Option, Some, None, if◌then◌else◌}
 use Rattle.rp_base.specs.declared.exceptions.Beyond.TheVariants as beyond
 use Rattle.py_ast.specs.declared.program.Program.{Program}
 use Rattle.py_store.specs.declared.cell.Binding.{Binding}
@@ -9,8 +9,8 @@ use Rattle.side_trees.specs.Trees.{Act, Stop}
 use Rattle.language_rules.specs.Codes.{Env}
 use Rattle.language_rules.specs.Going.{RuleTree, nowhere, looks, reads_cell, sets_cell}
 use Rattle.language_rules.specs.Texts.{has_name, text_at}
-use Rattle.language_rules.specs.Names.{namespace_number}
 use Rattle.language_rules.specs.Functions.{runs_body}
+use Rattle.language_rules.specs.States.{Handling, namespace_number}
 
 -- ---- the names of handlers
 
@@ -24,15 +24,25 @@ abbrev pub with_names : List (List ℕ) → List (List ℕ) → List (List ℕ)
 with_names [] reserved = reserved
 with_names (n ∷ ns) reserved = with_names ns (if has_name n reserved then reserved else reserved ++ n ∷ [])
 
+abbrev pub is_among : Option (List ℕ) → List (List ℕ) → Bool
+is_among None names = false
+is_among (Some name) names = has_name name names
+
+-- whether one of these names stands now for an exception that the top of some text handles
+abbrev pub handles_one : List (List ℕ) → List Handling → Bool
+handles_one names [] = false
+handles_one names (h ∷ hs) = if (h.scope == namespace_number) && h.bound && is_among h.name names then true else handles_one names hs
+
 -- Such a name is reserved in the namespace from now on, and a text that has one that is bound there is outside the subset.
-abbrev pub reserves_in : List (List ℕ) → RuleTree → Cell → RuleTree
-reserves_in names t (cell.Namespace bindings reserved) =
-    if binds_one names bindings then Stop beyond.Name else sets_cell namespace_number (cell.Namespace bindings (with_names names reserved)) t
-reserves_in names t _ = nowhere
+abbrev pub reserves_in : List Handling → List (List ℕ) → RuleTree → Cell → RuleTree
+reserves_in handled names t (cell.Namespace bindings reserved) =
+    if binds_one names bindings || handles_one names handled then Stop beyond.Name
+    else sets_cell namespace_number (cell.Namespace bindings (with_names names reserved)) t
+reserves_in handled names t _ = nowhere
 
 -- the names are reserved, and then the rest comes
 abbrev pub reserves : List (List ℕ) → RuleTree → RuleTree
-reserves names t = reads_cell namespace_number (reserves_in names t)
+reserves names t = looks (λ s. reads_cell namespace_number (reserves_in s.handled names t))
 
 -- ---- a text
 

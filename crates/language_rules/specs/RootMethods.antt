@@ -16,6 +16,7 @@ use Rattle.side_trees.specs.Trees.{Stop}
 use Rattle.language_rules.specs.Answers.{gives}
 use Rattle.language_rules.specs.Going.{RuleTree, nowhere, fails, type_error, looks, reads_cell}
 use Rattle.language_rules.specs.Programs.{begins_text}
+use Rattle.language_rules.specs.States.{first_module_number}
 
 -- a text runs where it is accepted
 abbrev pub begins : Option Program → RuleTree
@@ -26,10 +27,6 @@ begins None = Stop beyond.Text
 abbrev pub module_place : List ℕ → List Module → Option ℕ
 module_place name modules = position (λ m. bytes_eq name m.name) modules
 
--- the cell of the first module; those of the others follow, in order
-abbrev pub first_module_cell : ℕ
-first_module_cell = 3
-
 -- the cell of a module
 abbrev pub gives_host : ℕ → Cell → RuleTree
 gives_host n (cell.Host host) = gives (value.Own n)
@@ -37,7 +34,7 @@ gives_host n _ = nowhere
 
 -- the module at a place, or the exception of a name that no module has
 abbrev pub gives_module : List ℕ → Option ℕ → RuleTree
-gives_module name (Some place) = reads_cell (first_module_cell + place) (gives_host (first_module_cell + place))
+gives_module name (Some place) = reads_cell (first_module_number + place) (gives_host (first_module_number + place))
 gives_module name None = fails exception.ModuleNotFoundError name
 
 -- each takes one text

@@ -7,9 +7,9 @@ use Rattle.py_store.specs.declared.cell.Cell.TheVariants as cell
 use Rattle.host_api.specs.Modules.{Module}
 use Rattle.object_operations.specs.declared.operation.Operation.TheVariants as operation
 use Rattle.language_rules.specs.Going.{RuleTree, none, makes, sets_cell, asks, reads_cell}
-use Rattle.language_rules.specs.Names.{namespace_number, binds_global}
+use Rattle.language_rules.specs.Names.{binds_global}
 use Rattle.language_rules.specs.Programs.{begins_text}
-use Rattle.language_rules.specs.States.{State}
+use Rattle.language_rules.specs.States.{State, namespace_number}
 
 -- what texts are accepted as: scripts, and single expressions
 pub record Reader : Type 0 where

@@ -46,3 +46,14 @@ with_cell c s = record s { cells = s.cells ++ (c ∷ []) }
 
 abbrev pub set_cell : ℕ → Cell → State → State
 set_cell n c s = record s { cells = slice_set s.cells (n - 1) c }
+
+-- ---- the first cells: the namespace, the root, and a cell for each module
+
+abbrev pub namespace_number : ℕ
+namespace_number = 1
+
+abbrev pub root_number : ℕ
+root_number = 2
+
+abbrev pub first_module_number : ℕ
+first_module_number = 3

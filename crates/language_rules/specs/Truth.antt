@@ -17,7 +17,7 @@ use Rattle.language_rules.specs.Going.{RuleTree, boolean, nowhere, carry, and_va
 
 -- what no step comes to in which each answer is what it should be
 abbrev pub nowhere_step : Step
-nowhere_step = Leaves beyond.Attribute
+nowhere_step = Leaves beyond.NotYet
 
 -- a bool at once
 abbrev pub tells : Bool → Step
