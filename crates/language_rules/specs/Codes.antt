@@ -29,7 +29,7 @@ pub data Container : Type 0 where
 -- Give a: nothing but this end. Then c f: a piece of code, and then the one that goes on after its end. Go t: a step.
 -- WhileTest env test body: a turn of a `while` from its test on. ForNext env target body iterator a: a turn of a `for` from the answer of `__next__` on.
 -- DrainNext container iterator items a: the going over a collection, from an answer of `__next__` on, with the items so far.
--- SearchNext list position x a: a search in a list, from the answer for the item at a position on. ValuesNext dict position x a: the same in the values of a dict.
+-- SearchNext list position x a: a search in a list, from the answer for the item at a position on. ValuesNext dict shape position x a: the same in the values of a dict that had this shape.
 -- ListText list position made a, DictText dict shape position made a: the printing of a list or a dict, from the text of an item on.
 -- EqualItem list other op count position a: the comparison of a list with another, from the other's item on. AddItem other count position made a: a list and then another, from the other's item on.
 -- AttributeCall receiver name arguments: an attribute and then its call. Inspect number: the methods of a cell.
@@ -46,7 +46,7 @@ mutual
     ForNext : Env → ℕ → ℕ → Value → Completion → Code
     DrainNext : Container → Value → List Value → Completion → Code
     SearchNext : ℕ → ℕ → Value → Completion → Code
-    ValuesNext : ℕ → ℕ → Value → Completion → Code
+    ValuesNext : ℕ → ℕ → ℕ → Value → Completion → Code
     ListText : ℕ → ℕ → List ℕ → Completion → Code
     DictText : ℕ → ℕ → ℕ → List ℕ → Completion → Code
     EqualItem : ℕ → Value → CmpOp → ℕ → ℕ → Completion → Code

@@ -1,5 +1,6 @@
 -- Searching for a value in the items of a tuple, of a list and in the values of a dict (Python Language Reference, "Membership test operations").
-use Rattle.std.specs.Prelude.{ℕ, suc, true, false, pos, List, [], ◌∷◌, drop, map}
+use Rattle.std.specs.Prelude.{ℕ, suc, ◌==◌, if◌then◌else◌, true, false, pos, List, [], ◌∷◌, drop, map}
+use Rattle.rp_base.specs.declared.exceptions.Beyond.TheVariants as beyond
 use Rattle.rp_base.specs.declared.plain.Plain.TheVariants as plain
 use Rattle.rp_base.specs.declared.value.Value.{Value}
 use Rattle.rp_base.specs.declared.value.Value.TheVariants as value
@@ -58,14 +59,14 @@ searches_list n x = reads_list n (searches_from n 0 x)
 abbrev pub search_rule : ℕ → ℕ → Value → Completion → RuleTree
 search_rule n i x a = on_bool (λ b. elim b [ true ↦ gives_position i | false ↦ reads_list n (λ items. searches_from n (suc i) x (drop (suc i) items)) ]) a
 
--- ---- the values of a dict, in the same way over the entries as they then are
+-- ---- the values of a dict, in the same way, as long as its keys stay as they are
 
-abbrev pub values_from : ℕ → ℕ → Value → List Value → RuleTree
-values_from n i x [] = Return (Gives none)
-values_from n i x (e ∷ es) = elim (found_step x e) [
-  | Ends a ↦ on_bool (λ b. elim b [ true ↦ gives_position i | false ↦ values_from n (suc i) x es ]) a
+abbrev pub values_from : ℕ → ℕ → ℕ → Value → List Value → RuleTree
+values_from n shape i x [] = Return (Gives none)
+values_from n shape i x (e ∷ es) = elim (found_step x e) [
+  | Ends a ↦ on_bool (λ b. elim b [ true ↦ gives_position i | false ↦ values_from n shape (suc i) x es ]) a
   | Leaves b ↦ Stop b
-  | Asks o c ↦ operates o (λ a. Then (c a) (λ r. ValuesNext n i x r)) (λ a. Return a)
+  | Asks o c ↦ operates o (λ a. Then (c a) (λ r. ValuesNext n shape i x r)) (λ a. Return a)
 ]
 
 -- the values of entries
@@ -74,7 +75,11 @@ values_of entries = map (λ e. e.1) entries
 
 -- the place of the first entry in whose value x is found, or None
 abbrev pub searches_values : ℕ → Value → RuleTree
-searches_values n x = reads_dict n (λ entries shape. values_from n 0 x (values_of entries))
+searches_values n x = reads_dict n (λ entries shape. values_from n shape 0 x (values_of entries))
 
-abbrev pub values_rule : ℕ → ℕ → Value → Completion → RuleTree
-values_rule n i x a = on_bool (λ b. elim b [ true ↦ gives_position i | false ↦ reads_dict n (λ entries shape. values_from n (suc i) x (drop (suc i) (values_of entries))) ]) a
+-- on with the values behind a position, where no key has come or gone
+abbrev pub values_behind : ℕ → ℕ → ℕ → Value → RuleTree
+values_behind n shape i x = reads_dict n (λ entries now. if now == shape then values_from n shape (suc i) x (drop (suc i) (values_of entries)) else Stop beyond.Changed)
+
+abbrev pub values_rule : ℕ → ℕ → ℕ → Value → Completion → RuleTree
+values_rule n shape i x a = on_bool (λ b. elim b [ true ↦ gives_position i | false ↦ values_behind n shape i x ]) a
