@@ -108,11 +108,14 @@ method_gave _ v = Return (Gives v)
 abbrev pub instance_compare : ℕ → CmpOp → Value → RuleTree
 instance_compare n o other = calls_method n (method_of o) (other ∷ []) (method_gave o) not_implemented
 
--- ---- the operation, by the kinds of both
+-- ---- the operation, by the kinds of both; a namespace is a dict
 
 abbrev pub cells_compared : ℕ → CmpOp → Value → Cell → Option Kind → RuleTree
 cells_compared n o other (cell.List items) (Some kind.List) = lists_compared n other o
 cells_compared n o other (cell.Dict entries shape) (Some kind.Dict) = Stop beyond.Compare
+cells_compared n o other (cell.Dict entries shape) (Some kind.Namespace) = Stop beyond.Compare
+cells_compared n o other (cell.Namespace names reserved) (Some kind.Dict) = Stop beyond.Compare
+cells_compared n o other (cell.Namespace names reserved) (Some kind.Namespace) = Stop beyond.Compare
 cells_compared n o other (cell.Range start stop step) (Some kind.Range) = Stop beyond.Compare
 cells_compared n o other (cell.View dict which) (Some kind.View) = Stop beyond.Compare
 cells_compared n o other (cell.Bound receiver method) (Some kind.Bound) = Stop beyond.Compare

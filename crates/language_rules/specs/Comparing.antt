@@ -99,19 +99,19 @@ tuple_against xs a b None = operands_step cmp.Eq a b
 
 -- ---- `==`
 
--- each item beside its `==`
-abbrev pub beside_plain : List (Plain → Value → Step) → List Plain → List (Value × (Value → Step))
-beside_plain (f ∷ fs) (p ∷ ps) = (value.Plain p, f p) ∷ beside_plain fs ps
-beside_plain _ _ = []
+-- each item with_tests its `==`
+abbrev pub with_plain_tests : List (Plain → Value → Step) → List Plain → List (Value × (Value → Step))
+with_plain_tests (f ∷ fs) (p ∷ ps) = (value.Plain p, f p) ∷ with_plain_tests fs ps
+with_plain_tests _ _ = []
 
-abbrev pub beside : List (Value → Value → Step) → List Value → List (Value × (Value → Step))
-beside (f ∷ fs) (v ∷ vs) = (v, f v) ∷ beside fs vs
-beside _ _ = []
+abbrev pub with_tests : List (Value → Value → Step) → List Value → List (Value × (Value → Step))
+with_tests (f ∷ fs) (v ∷ vs) = (v, f v) ∷ with_tests fs vs
+with_tests _ _ = []
 
--- a plain value on the left, by one level of it with the `==` of each item in its place, and the value itself
+-- a plain value on the left: one level of it with the `==` of each item, its items, and the value itself
 abbrev pub plain_against : Plain-F (Plain → Value → Step) → Plain-F Plain → Plain → Value → Step
 plain_against _ _ a (value.Plain b) = tells_answer (compared cmp.Eq a b)
-plain_against (Plain-F.Tuple fs) (Plain-F.Tuple ps) a b = tuple_against (beside_plain fs ps) (value.Plain a) b (tuple_items b)
+plain_against (Plain-F.Tuple fs) (Plain-F.Tuple ps) a b = tuple_against (with_plain_tests fs ps) (value.Plain a) b (tuple_items b)
 plain_against _ _ a b = operands_step cmp.Eq (value.Plain a) b
 
 abbrev pub plain_equal_step : Plain-F (Plain → Value → Step) → Plain → Value → Step
@@ -123,7 +123,7 @@ plain_equals a b = gather (Plain → Value → Step) plain_equal_step a a b
 -- any value on the left
 abbrev pub value_against : Value-F (Value → Value → Step) → Value-F Value → Value → Value → Step
 value_against (Value-F.Plain p) _ a b = plain_equals p b
-value_against (Value-F.Tuple fs) (Value-F.Tuple vs) a b = tuple_against (beside fs vs) a b (tuple_items b)
+value_against (Value-F.Tuple fs) (Value-F.Tuple vs) a b = tuple_against (with_tests fs vs) a b (tuple_items b)
 value_against _ _ a b = operands_step cmp.Eq a b
 
 abbrev pub value_equal_step : Value-F (Value → Value → Step) → Value → Value → Step

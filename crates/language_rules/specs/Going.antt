@@ -50,7 +50,7 @@ fails k t = raises k (plain.Text t ∷ [])
 abbrev pub type_error : List ℕ → RuleTree
 type_error t = fails kind.TypeError t
 
--- What no state comes to in which each number names what it should. No rule gives this end otherwise.
+-- What no state comes to in which each number names what it should, and what no accepted text has. No rule gives this end otherwise.
 abbrev pub nowhere : RuleTree
 nowhere = Stop beyond.NotYet
 

@@ -26,7 +26,7 @@ abbrev pub around : Option Cell → ℕ
 around (Some (cell.Scope names parent)) = parent
 around _ = zero
 
--- Of this function and those around it the first that has the name as its own, with its scope: the scope given is that of this function. A function around another has a smaller number, so there are at most as many as the number of the one inside.
+-- Of this function and those around it the first that has the name as its own, with its scope: the scope given is that of this function. The number in front only bounds the recursion: a function around another has a smaller number than that one.
 abbrev pub outer_place : State → ℕ → List ℕ → ℕ → Option ℕ → ℕ → Place
 outer_place s text name zero function scope = Missing
 outer_place s text name (suc most) None scope = Missing

@@ -1,4 +1,5 @@
 -- The texts of values and of objects (Python Library Reference, "Built-in Functions", `repr`, and "Text Sequence Type", `str`; Python Language Reference, "Basic customization").
+-- The text of a tuple is a step, since its items are at hand; that of a list or a dict goes on through code, since the object may change. So what adds a part stands here in both forms.
 use Rattle.std.specs.Prelude.{ℕ, suc, ◌+◌, ◌==◌, true, false, nat_lt, ℤ, pos, List, [], ◌∷◌, ◌++◌, drop, length, codes}
 use Rattle.std.specs.List.{list_any}
 use Rattle.std.specs.Ordering.{int_eq}

@@ -11,7 +11,7 @@ use Rattle.rp_base.specs.PlainLaws.{gather_tuple, look_tuple}
 use Rattle.rp_base.specs.Values.{gather_value}
 use Rattle.rp_base.specs.ValueLaws.{gather_value_tuple, look_value_tuple}
 use Rattle.language_rules.specs.Codes.{Step}
-use Rattle.language_rules.specs.Comparing.{plain_items, value_items, tuple_items, tuple_against, beside_plain, beside, plain_against, plain_equal_step, plain_equals, value_against, value_equal_step, equals_step}
+use Rattle.language_rules.specs.Comparing.{plain_items, value_items, tuple_items, tuple_against, with_plain_tests, with_tests, plain_against, plain_equal_step, plain_equals, value_against, value_equal_step, equals_step}
 use Rattle.language_rules.specs.Printing.{tuple_text_step, repr_layer, repr_step}
 
 -- ---- the items of a tuple
@@ -28,12 +28,12 @@ pub repr_tuple : (vs : List Value) → repr_step (value.Tuple vs) ≡ tuple_text
 unfolding repr_step
 repr_tuple vs = gather_value_tuple Step repr_layer vs
 
--- ---- `==` with such a tuple on the left: each item stands beside its own `==`
+-- ---- `==` with such a tuple on the left: each item stands with_tests its own `==`
 
 abbrev Compares : Type 0
 Compares = Value → Value → Step
 
-beside_is : (vs : List Value) → beside (map (gather_value Compares value_equal_step) vs) vs ≡ map (λ v. (v, equals_step v)) vs
+beside_is : (vs : List Value) → with_tests (map (gather_value Compares value_equal_step) vs) vs ≡ map (λ v. (v, equals_step v)) vs
 unfolding equals_step
 beside_is [] = refl
 beside_is (v ∷ vs) = ap (λ (es : List (Value × (Value → Step))). (v, equals_step v) ∷ es) (beside_is vs)
@@ -50,10 +50,10 @@ equals_tuple vs b =
 abbrev ComparesPlain : Type 0
 ComparesPlain = Plain → Value → Step
 
-beside_plain_is : (ps : List Plain) → beside_plain (map (gather ComparesPlain plain_equal_step) ps) ps ≡ map (λ p. (value.Plain p, plain_equals p)) ps
+with_plain_tests_is : (ps : List Plain) → with_plain_tests (map (gather ComparesPlain plain_equal_step) ps) ps ≡ map (λ p. (value.Plain p, plain_equals p)) ps
 unfolding plain_equals
-beside_plain_is [] = refl
-beside_plain_is (p ∷ ps) = ap (λ (es : List (Value × (Value → Step))). (value.Plain p, plain_equals p) ∷ es) (beside_plain_is ps)
+with_plain_tests_is [] = refl
+with_plain_tests_is (p ∷ ps) = ap (λ (es : List (Value × (Value → Step))). (value.Plain p, plain_equals p) ∷ es) (with_plain_tests_is ps)
 
 at_plain_layers : (ps : List Plain) (b : Value) → plain_equals (plain.Tuple ps) b ≡ plain_against (Plain-F.Tuple (map (gather ComparesPlain plain_equal_step) ps)) (Plain-F.Tuple ps) (plain.Tuple ps) b
 unfolding plain_equals
@@ -65,4 +65,4 @@ at_plain_layers ps b =
 pub plain_equals_tuple : (ps : List Plain) (ys : List Value) → plain_equals (plain.Tuple ps) (value.Tuple ys) ≡ tuple_against (map (λ p. (value.Plain p, plain_equals p)) ps) (value.Plain (plain.Tuple ps)) (value.Tuple ys) (tuple_items (value.Tuple ys))
 plain_equals_tuple ps ys =
     at_plain_layers ps (value.Tuple ys)
-    ∙ ap (λ (es : List (Value × (Value → Step))). tuple_against es (value.Plain (plain.Tuple ps)) (value.Tuple ys) (tuple_items (value.Tuple ys))) (beside_plain_is ps)
+    ∙ ap (λ (es : List (Value × (Value → Step))). tuple_against es (value.Plain (plain.Tuple ps)) (value.Tuple ys) (tuple_items (value.Tuple ys))) (with_plain_tests_is ps)

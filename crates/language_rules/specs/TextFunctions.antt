@@ -34,12 +34,12 @@ find text part = found_place (least_place text part)
 
 -- ---- splitting
 
--- The pieces between separators: each ends at the least place at which the separator stands in what is left. n is a number of pieces that there are at most, less one.
+-- The pieces between separators: each ends at the least place at which the separator stands in what is left. The number n is that of the separators that are looked for.
 abbrev pub pieces_within : ℕ → List ℕ → List ℕ → List (List ℕ)
 pieces_within zero sep text = text ∷ []
 pieces_within (suc n) sep text = elim (least_place text sep) [ Some k ↦ take k text ∷ pieces_within n sep (drop (k + length sep) text) | None ↦ text ∷ [] ]
 
--- the pieces of a text between separators that are not empty: as many as its characters, and one more, are enough
+-- The pieces of a text between separators that are not empty. The number only bounds the recursion: a text has at most one separator for each of its characters.
 abbrev pub pieces : List ℕ → List ℕ → List (List ℕ)
 pieces sep text = pieces_within (length text) sep text
 
