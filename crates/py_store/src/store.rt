@@ -150,7 +150,7 @@ impl Store {
         ensures { option_map (λ p. (p.holder, p.at)) result ≡ first_holder self.now.cells number name.now }
     {
         let mut holder = number;
-        for _ in 0..self.cells.len() {
+        for _ in 0..self.cells.len() + 1 {
             if let Some(at) = find_binding(self.own_attributes(holder), name) {
                 return Some(Place { holder, at });
             }
