@@ -1,3 +1,4 @@
+pub mod EntryLemmas
 pub mod Examples
 pub mod Lines
 pub mod Searches
