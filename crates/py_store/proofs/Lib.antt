@@ -1,3 +1,4 @@
+pub mod BindingLemmas
 pub mod EntryLemmas
 pub mod Examples
 pub mod Lines
