@@ -2,9 +2,13 @@ ghost use Rattle.std.specs.Prelude.{◌≡◌, ◌++◌, ℕ, List, [], ◌∷�
 ghost use Rattle.std.specs.Map.{keys_of, values_of};
 ghost use Rattle.rp_base.specs.declared.plain.Plain.{Plain};
 ghost use Rattle.rp_base.specs.declared.value.Value.{Value};
+ghost use Rattle.rp_base.specs.declared.identity.Kind.{Kind};
+ghost use Rattle.rp_base.specs.Identity.{kind_named};
 ghost use Rattle.rp_base.specs.PlainValues.{equal_to};
 ghost use Rattle.py_store.specs.declared.cell.Cell.{Cell};
 ghost use Rattle.py_store.specs.Attributes.{IsLine, lineage};
+ghost use Rattle.py_store.specs.Cells.{cell_of};
+ghost use Rattle.py_store.specs.Identities.{NamespaceIsFirst, cell_kind, identity_of, number_of};
 ghost use Rattle.py_store.specs.EntryLists.{EntryList, AreUnequal, entry_place, entry_value, with_entry, without_entry};
 
 /// A key that equals one of the entries keeps that one's spelling and place, and only the value there changes.
@@ -42,4 +46,14 @@ pub fn keys_stay_unequal()
 /// An attribute is looked up in the instance, in its class and then in the bases, up to the last one.
 pub fn attributes_are_searched_in_order()
     ensures { (cells : List Cell) (number : ℕ) (numbers : List ℕ) → IsLine cells number numbers → lineage cells number ≡ numbers }
+{}
+
+/// A cell that values may refer to is the one that its identity names, so no two cells of a side have one identity.
+pub fn identities_name_their_cells()
+    ensures { (cells : List Cell) (number : ℕ) (c : Cell) (k : Kind) → cell_of cells number ≡ Some c → cell_kind c ≡ Some k → number_of (identity_of cells number) ≡ number }
+{}
+
+/// The kind that an identity tells is that of its cell.
+pub fn identities_tell_kinds()
+    ensures { (cells : List Cell) (number : ℕ) (c : Cell) (k : Kind) → NamespaceIsFirst cells → cell_of cells number ≡ Some c → cell_kind c ≡ Some k → kind_named (identity_of cells number).name (identity_of cells number).inst_no ≡ k }
 {}

@@ -12,8 +12,9 @@ pub use cell::{Binding, Cell, Method, Which};
 pub use entries::Entries;
 pub use key::Key;
 pub use laws::{
-    attributes_are_searched_in_order, equal_keys_keep_their_place, keys_stay_unequal,
-    new_keys_go_last, one_entry_is_taken, what_is_put_is_found, what_is_taken_is_gone,
+    attributes_are_searched_in_order, equal_keys_keep_their_place, identities_name_their_cells,
+    identities_tell_kinds, keys_stay_unequal, new_keys_go_last, one_entry_is_taken,
+    what_is_put_is_found, what_is_taken_is_gone,
 };
 pub use names::{bind, bound, find_binding, unbind};
-pub use store::{Place, Store};
+pub use store::{Place, Store, cell_number};
