@@ -7,6 +7,8 @@ mod key;
 mod laws;
 mod names;
 mod store;
+#[cfg(test)]
+mod tests;
 
 pub use cell::{Binding, Cell, Method, Which};
 pub use entries::Entries;
