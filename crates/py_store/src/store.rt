@@ -26,7 +26,6 @@ pub struct Place {
 
 impl Model for Store {
     ghost use Rattle.std.specs.Prelude.{◌≤◌, length};
-    ghost use Rattle.py_store.specs.Attributes.{attribute_value, first_holder, own_attributes, parent_of};
     ghost use Rattle.py_store.specs.Cells.{Cells, most_cells};
     ghost use Rattle.rp_base.specs.contracts.plain.Plain as plain_type;
     ghost use Rattle.rp_base.specs.contracts.value.Value as value_type;
