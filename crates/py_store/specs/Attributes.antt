@@ -1,5 +1,5 @@
 -- Attributes of instances and classes: those of its own come first, then those of its class, then those of the bases (Python Language Reference, "The standard type hierarchy").
-use Rattle.std.specs.Prelude.{ℕ, zero, suc, List, [], ◌∷◌, length, Option, Some, None, option_map, slice_get}
+use Rattle.std.specs.Prelude.{◌≡◌, ℕ, zero, suc, ◌+◌, ◌<◌, List, [], ◌∷◌, length, Option, Some, None, option_map, slice_get}
 use Rattle.rp_base.specs.declared.value.Value.{Value}
 use Rattle.py_store.specs.declared.cell.Binding.{Binding}
 use Rattle.py_store.specs.declared.cell.Cell.{Cell}
@@ -25,9 +25,19 @@ lineage_within cells zero number = []
 lineage_within cells (suc most) None = []
 lineage_within cells (suc most) (Some number) = number ∷ lineage_within cells most (parent_of (cell_of cells number))
 
--- the cell, its class and the bases, in the order of the search: no more than there are cells
+-- the cell, its class and the bases, in the order of the search: no more than an instance and all cells
 abbrev pub lineage : List Cell → ℕ → List ℕ
-lineage cells number = lineage_within cells (length cells) (Some number)
+lineage cells number = lineage_within cells (length cells + 1) (Some number)
+
+-- a class and its bases, each of which is a class that was made before
+pub data IsClassLine (cells : List Cell) : ℕ → List ℕ → Type 0 where
+  Alone : (number : ℕ) (name : List ℕ) (attributes : List Binding) → cell_of cells number ≡ Some (cell.Class name None attributes) → IsClassLine cells number (number ∷ [])
+  Derived : (number base : ℕ) (name : List ℕ) (attributes : List Binding) (bases : List ℕ) → cell_of cells number ≡ Some (cell.Class name (Some base) attributes) → base < number → IsClassLine cells base bases → IsClassLine cells number (number ∷ bases)
+
+-- an instance with its class and the bases, or a class with its bases
+pub data IsLine (cells : List Cell) : ℕ → List ℕ → Type 0 where
+  OfClass : (number : ℕ) (classes : List ℕ) → IsClassLine cells number classes → IsLine cells number classes
+  OfInstance : (number class_no : ℕ) (attributes : List Binding) (classes : List ℕ) → cell_of cells number ≡ Some (cell.Instance class_no attributes) → IsClassLine cells class_no classes → IsLine cells number (number ∷ classes)
 
 -- the first of these cells that has the attribute, and its place there
 abbrev pub holder_among : List Cell → List ℕ → List ℕ → Option (ℕ × ℕ)

@@ -1,6 +1,8 @@
 -- The identities by which the other side knows cells, after the `id_pack` of RPyC's module `netref`.
-use Rattle.std.specs.Prelude.{ℕ, List, [], ◌++◌, codes, Option, Some, None}
+use Rattle.std.specs.Prelude.{◌≡◌, ◌↔◌, ℕ, ◌==◌, if◌then◌else◌, List, [], ◌++◌, codes, Option, Some, None}
 use Rattle.rp_base.specs.declared.identity.IdPack.{IdPack}
+use Rattle.rp_base.specs.declared.identity.Kind.{Kind}
+use Rattle.rp_base.specs.declared.identity.Kind.TheVariants as kind
 use Rattle.py_store.specs.declared.cell.Cell.{Cell}
 use Rattle.py_store.specs.declared.cell.Cell.TheVariants as cell
 use Rattle.py_store.specs.Cells.{cell_of}
@@ -40,3 +42,30 @@ identity_as cells number None = identity [] 0 0
 -- the identity of the cell of this number
 abbrev pub identity_of : List Cell → ℕ → IdPack
 identity_of cells number = identity_as cells number (cell_of cells number)
+
+-- the number of the cell that the identity names
+abbrev pub number_of : IdPack → ℕ
+number_of id = if id.inst_no == 0 then id.class_no else id.inst_no
+
+-- the kind of a cell that values may refer to
+abbrev pub cell_kind : Cell → Option Kind
+cell_kind (cell.List items) = Some kind.List
+cell_kind (cell.Dict entries shape) = Some kind.Dict
+cell_kind (cell.Scope names parent) = None
+cell_kind (cell.Namespace names reserved) = Some kind.Namespace
+cell_kind (cell.Function text function scope) = Some kind.Function
+cell_kind (cell.Class name base attributes) = Some kind.Class
+cell_kind (cell.Instance class_no attributes) = Some kind.Instance
+cell_kind (cell.Bound receiver method) = Some kind.Bound
+cell_kind (cell.Iter source at shape) = Some kind.Iter
+cell_kind (cell.View dict which) = Some kind.View
+cell_kind (cell.Range start stop step) = Some kind.Range
+cell_kind (cell.Host host) = Some kind.Host
+cell_kind (cell.HostFunc host name) = Some kind.HostFunc
+cell_kind (cell.Conn root namespace modules) = Some kind.Conn
+cell_kind (cell.Modules root) = Some kind.Modules
+cell_kind cell.Root = Some kind.Root
+
+-- a side's namespace is its first cell, and no other
+abbrev pub NamespaceIsFirst : List Cell → Type 0
+NamespaceIsFirst cells = (number : ℕ) (c : Cell) → cell_of cells number ≡ Some c → (cell_kind c ≡ Some kind.Namespace) ↔ (number ≡ 1)

@@ -1,5 +1,5 @@
-ghost use Rattle.std.specs.Prelude.{◌≡◌, ◌==◌, ◌<◌, ℕ, List, [], IfOk, OnOk, OnErr, Some, length, option_copied, option_map, slice_get};
-ghost use Rattle.std.specs.Map.{keys_of, lookup_entry};
+ghost use Rattle.std.specs.Prelude.{◌≡◌, ◌==◌, ◌<◌, [], IfOk, OnOk, OnErr, Some, length, option_copied, option_map, slice_get};
+ghost use Rattle.std.specs.Map.{lookup_entry};
 ghost use Rattle.rp_base.specs.PlainValues.{equal_to};
 ghost use Rattle.py_store.specs.EntryLists.{AreUnequal, entry_place, entry_value, with_entry, without_entry};
 

@@ -1,10 +1,10 @@
 ghost use Rattle.std.specs.Prelude.{◌≡◌, map};
+ghost use Rattle.std.specs.Hash as fed;
+ghost use Rattle.std.proofs.Common.{ap};
 ghost use Rattle.rp_base.specs.PlainValues.{equal_to};
 ghost use Rattle.rp_base.specs.EqualLaws.{equal_partial, equal_equivalence};
 ghost use Rattle.py_store.specs.Digests.{mixed, mixed_all, digest};
 ghost use Rattle.py_store.specs.DigestLaws.{equal_digests};
-ghost use Rattle.std.proofs.Common.{ap};
-ghost use Rattle.std.specs.Hash as fed;
 
 use rp_base::{Plain, equal};
 use std::hash::{Hash, Hasher};

@@ -1,11 +1,11 @@
 ghost use Rattle.std.specs.Prelude.{◌≡◌, ◌+◌, ◌<◌, ◌≤◌, ◌++◌, [], ◌∷◌, IfOk, OnOk, OnErr, Some, length, option_copied, option_map};
-ghost use Rattle.py_store.specs.Attributes.{first_holder, own_attributes, parent_of};
+ghost use Rattle.py_store.specs.Attributes.{attribute_value, first_holder, own_attributes, parent_of};
 ghost use Rattle.py_store.specs.Cells.{cell_of, with_cell, most_cells};
-ghost use Rattle.py_store.specs.Identities.{class_name, full_name, identity, identity_as, identity_of};
+ghost use Rattle.py_store.specs.Identities.{class_name, full_name, identity, identity_as, identity_of, number_of};
 
 use crate::cell::{Binding, Cell};
 use crate::names::find_binding;
-use rp_base::{IdPack, NoMemory, Side, Text};
+use rp_base::{IdPack, NoMemory, Side, Text, Value};
 use std::alloc::Global;
 use std::marker::Model;
 use std::mem;
@@ -26,7 +26,6 @@ pub struct Place {
 
 impl Model for Store {
     ghost use Rattle.std.specs.Prelude.{◌≤◌, length};
-    ghost use Rattle.py_store.specs.Attributes.{first_holder, own_attributes, parent_of};
     ghost use Rattle.py_store.specs.Cells.{Cells, most_cells};
     ghost use Rattle.rp_base.specs.contracts.plain.Plain as plain_type;
     ghost use Rattle.rp_base.specs.contracts.value.Value as value_type;
@@ -150,13 +149,22 @@ impl Store {
         ensures { option_map (λ p. (p.holder, p.at)) result ≡ first_holder self.now.cells number name.now }
     {
         let mut holder = number;
-        for _ in 0..self.cells.len() {
+        for _ in 0..self.cells.len() + 1 {
             if let Some(at) = find_binding(self.own_attributes(holder), name) {
                 return Some(Place { holder, at });
             }
             holder = self.parent(holder)?;
         }
         None
+    }
+
+    /// The value of an attribute of this name, with the number of the first cell that has it.
+    pub fn get_attr(&self, number: u32, name: &str) -> Option<(u32, &Value)>
+        ensures { option_map (λ p. (p.0, p.1.now)) result ≡ attribute_value self.now.cells number name.now }
+    {
+        let place = self.find_attr(number, name)?;
+        let binding = self.own_attributes(place.holder).get(place.at)?;
+        Some((place.holder, &binding.value))
     }
 
     /// The attributes of the cell of this number.
@@ -226,4 +234,15 @@ fn of_class(alloc: Global, name: &str, class: u32, instance: u32) -> Result<IdPa
         class_no: u64::from(class),
         inst_no: u64::from(instance),
     })
+}
+
+/// The number of the cell that this identity names.
+pub fn cell_number(id: &IdPack) -> u64
+    ensures { result ≡ number_of id.now }
+{
+    if id.inst_no == 0 {
+        id.class_no
+    } else {
+        id.inst_no
+    }
 }
