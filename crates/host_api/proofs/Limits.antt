@@ -1,5 +1,5 @@
 -- Values and arguments that are within the limits.
-use Rattle.std.proofs.Common.{◌≡◌, ◌<◌, ◌≤◌, ◌+◌, ℕ, max, sum, fold, map, List, [], ◌∷◌, ℤ, length, slice_index_or, arith, refl, ◌∙◌}
+use Rattle.std.proofs.Common.{◌≡◌, ◌<◌, ◌≤◌, ◌+◌, ℕ, max, fold, map, List, [], ◌∷◌, ℤ, length, slice_index_or, arith, refl, ◌∙◌}
 use Rattle.std.proofs.lemmas.List.Recursion.{max_bounds}
 use Rattle.std.proofs.lemmas.List.Sums.{get_or-le-sum_by, sum-map}
 use Rattle.rp_base.specs.Computing.{computing}

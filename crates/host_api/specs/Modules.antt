@@ -37,12 +37,25 @@ abbrev pub HasTaken : Rule → Plain → List ℕ → List Plain → HostAnswer 
 HasTaken rule old func args answer.NoMemory new = new ≡ old
 HasTaken rule old func args given new = rule old func args ≡ (given, new)
 
--- the same at one module of a list, with the other states as they were
-abbrev pub HasTakenAt : List Rule → ℕ → List ℕ → List Plain → HostAnswer → List Plain → List Plain → Type 0
-HasTakenAt rules at func args given old new =
-    (rule : Rule) (state : Plain) → slice_get rules at ≡ Some rule → slice_get old at ≡ Some state →
-    (next : Plain) × (new ≡ slice_set old at next) × HasTaken rule state func args given next
+-- a module by its four parts
+abbrev pub module_of : List ℕ → (List ℕ → Bool) → Rule → Plain → Module
+module_of name has rule state = record { name = name; has = has; rule = rule; state = state }
+
+-- A module behind a call: all but its state stays, and the answer and the state are the rule's; or want of memory, with
+-- the module as it was.
+abbrev pub HasAnswered : Module → List ℕ → List Plain → HostAnswer → Module → Type 0
+HasAnswered m func args answer.NoMemory next = next ≡ m
+HasAnswered m func args given next =
+    ((m.rule m.state func args).0 ≡ given) × (next ≡ record m { state = (m.rule m.state func args).1 })
+
+-- the same of one module of a list; all others stay
+pub record HasTakenAt (old : List Module) (at : ℕ) (func : List ℕ) (args : List Plain) (given : HostAnswer) (new : List Module) : Type 0 where
+  pub taken : (m : Module) → slice_get old at ≡ Some m → (next : Module) × (new ≡ slice_set old at next) × HasAnswered m func args given next
+
+-- the name of a module of a list
+pub record IsNameAt (modules : List Module) (at : ℕ) (name : List ℕ) : Type 0 where
+  pub named : (m : Module) → slice_get modules at ≡ Some m → name ≡ m.name
 
 -- what the functions of a module of a list say of a name
-abbrev pub SaysAt : List (List ℕ → Bool) → ℕ → List ℕ → Bool → Type 0
-SaysAt functions at func said = (has : List ℕ → Bool) → slice_get functions at ≡ Some has → said ≡ has func
+pub record SaysAt (modules : List Module) (at : ℕ) (func : List ℕ) (said : Bool) : Type 0 where
+  pub says : (m : Module) → slice_get modules at ≡ Some m → said ≡ m.has func

@@ -1,5 +1,5 @@
-ghost use Rattle.std.specs.Prelude.{◌≡◌, ◌<◌, map, vec_len, slice_get, Some};
-ghost use Rattle.host_api.specs.Modules.{AreArguments, KeepsLimits, HasTakenAt, SaysAt};
+ghost use Rattle.std.specs.Prelude.{◌≡◌, ◌<◌, map, vec_len};
+ghost use Rattle.host_api.specs.Modules.{module_of, AreArguments, KeepsLimits, HasTakenAt, IsNameAt, SaysAt};
 
 use crate::host::{Host, HostAnswer, call, has, name};
 use rp_base::Plain;
@@ -8,7 +8,7 @@ use std::alloc::Global;
 /// The name of a module of the list.
 pub fn name_at(hosts: &Vec<Box<dyn Host>>, at: usize) -> &str
     requires { at < vec_len hosts.now }
-    ensures { slice_get (map (λ b. title b) hosts.now.items) at ≡ Some result.now }
+    ensures { IsNameAt (map (λ b. module_of (title b) (functions b) (rule b) (state b)) hosts.now.items) at result.now }
 {
     name(&hosts[at])
 }
@@ -16,12 +16,12 @@ pub fn name_at(hosts: &Vec<Box<dyn Host>>, at: usize) -> &str
 /// Whether a module of the list has a function of this name.
 pub fn has_at(hosts: &Vec<Box<dyn Host>>, at: usize, func: &str) -> bool
     requires { at < vec_len hosts.now }
-    ensures { SaysAt (map (λ b. functions b) hosts.now.items) at func.now result }
+    ensures { SaysAt (map (λ b. module_of (title b) (functions b) (rule b) (state b)) hosts.now.items) at func.now result }
 {
     has(&hosts[at], func)
 }
 
-/// Calls a function of a module of the list. All names, functions and rules stay, and so do the states of the others.
+/// Calls a function of a module of the list. All else of the list stays: the others, and its name, functions and rule.
 pub fn call_at(
     hosts: &mut Vec<Box<dyn Host>>,
     at: usize,
@@ -32,10 +32,7 @@ pub fn call_at(
     requires there { at < vec_len hosts.old }
     requires arguments { AreArguments args.now }
     ensures size { vec_len hosts.new ≡ vec_len hosts.old }
-    ensures rules { map (λ b. rule b) hosts.new.items ≡ map (λ b. rule b) hosts.old.items }
-    ensures titles { map (λ b. title b) hosts.new.items ≡ map (λ b. title b) hosts.old.items }
-    ensures functions { map (λ b. functions b) hosts.new.items ≡ map (λ b. functions b) hosts.old.items }
-    ensures taken { HasTakenAt (map (λ b. rule b) hosts.old.items) at func.now args.now result (map (λ b. state b) hosts.old.items) (map (λ b. state b) hosts.new.items) }
+    ensures taken { HasTakenAt (map (λ b. module_of (title b) (functions b) (rule b) (state b)) hosts.old.items) at func.now args.now result (map (λ b. module_of (title b) (functions b) (rule b) (state b)) hosts.new.items) }
     ensures limits { KeepsLimits result }
 {
     let host = &mut hosts[at];
