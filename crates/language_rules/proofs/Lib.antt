@@ -5,6 +5,7 @@ pub mod ExceptionLaw
 pub mod ExpressionExamples
 pub mod ObjectExamples
 pub mod PairExamples
+pub mod RequestLaw
 pub mod ScriptExamples
 pub mod ServiceExamples
 pub mod Showing

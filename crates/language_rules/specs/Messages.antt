@@ -4,6 +4,7 @@ use Rattle.std.specs.Str.{bytes_eq}
 use Rattle.rp_base.specs.declared.exceptions.ExcKind.TheVariants as kind
 use Rattle.rp_base.specs.declared.handlers.Handler.{Handler}
 use Rattle.rp_base.specs.declared.handlers.Handler.TheVariants as handler
+use Rattle.rp_base.specs.declared.identity.IdPack.{IdPack}
 use Rattle.rp_base.specs.declared.operators.CmpOp.{CmpOp}
 use Rattle.rp_base.specs.declared.operators.CmpOp.TheVariants as cmp
 use Rattle.rp_base.specs.declared.plain.Plain.{Plain}
@@ -17,8 +18,9 @@ use Rattle.rp_base.specs.Values.{look_value, joined}
 use Rattle.object_operations.specs.declared.operation.Operation.{Operation}
 use Rattle.object_operations.specs.declared.operation.Operation.TheVariants as operation
 use Rattle.object_operations.specs.declared.special.Special.{Special}
+use Rattle.object_operations.specs.declared.special.Special.TheVariants as special
 use Rattle.object_operations.specs.Names.{special_name, special_of}
-use Rattle.language_rules.specs.Boxing.{box, unboxed, identity_in, own_number}
+use Rattle.language_rules.specs.Boxing.{box, unboxed, identity_in, own_number, crossed}
 use Rattle.language_rules.specs.Codes.{Completion, Gives, Raises, Code, Perform, Give, AttributeCall, Inspect}
 use Rattle.language_rules.specs.ExceptionContents.{exception_content, raised_in}
 use Rattle.language_rules.specs.Going.{none, text, raised}
@@ -141,3 +143,22 @@ code_of m = code_at m.handler (items_of (value_or_none (unboxed m.arguments)))
 abbrev pub completion_of : Answer → Completion
 completion_of (Replied p) = Gives (value_or_none (unboxed p))
 completion_of (Excepted p) = Raises (raised_in p)
+
+-- ---- what an operation is read as
+
+-- An operation as the other side sees it: each value in it crosses, and names and operators stay.
+abbrev pub crossed_operation : (ℕ → IdPack) → Operation → Operation
+crossed_operation ids operation.GetRoot = operation.GetRoot
+crossed_operation ids (operation.GetAttr receiver name) = operation.GetAttr (crossed ids receiver) name
+crossed_operation ids (operation.SetAttr receiver name v) = operation.SetAttr (crossed ids receiver) name (crossed ids v)
+crossed_operation ids (operation.DelAttr receiver name) = operation.DelAttr (crossed ids receiver) name
+crossed_operation ids (operation.Call callee arguments) = operation.Call (crossed ids callee) (map (crossed ids) arguments)
+crossed_operation ids (operation.Special receiver special arguments) = operation.Special (crossed ids receiver) special (map (crossed ids) arguments)
+crossed_operation ids (operation.Cmp receiver op other) = operation.Cmp (crossed ids receiver) op (crossed ids other)
+crossed_operation ids (operation.Str receiver) = operation.Str (crossed ids receiver)
+crossed_operation ids (operation.Repr receiver) = operation.Repr (crossed ids receiver)
+
+-- The code that carries the operation out at the other side. A root's `getmodule` is no special method: it is asked as an attribute's call.
+abbrev pub asked_code : (ℕ → IdPack) → Operation → Code
+asked_code ids (operation.Special receiver special.GetModule arguments) = AttributeCall (crossed ids receiver) (special_name special.GetModule) (map (crossed ids) arguments)
+asked_code ids o = Perform (crossed_operation ids o)

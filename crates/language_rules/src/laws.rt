@@ -3,11 +3,16 @@ ghost use Rattle.rp_base.specs.declared.exceptions.Raised.{Raised};
 ghost use Rattle.rp_base.specs.declared.identity.IdPack.{IdPack};
 ghost use Rattle.rp_base.specs.declared.value.Value.{Value};
 ghost use Rattle.language_rules.specs.Boxing.{boxed, unboxed, crossed};
+ghost use Rattle.language_rules.specs.Codes.{Gives, Raises};
 ghost use Rattle.language_rules.specs.ExceptionContents.{exception_content, raised_in};
 ghost use Rattle.side_trees.specs.Growing.{Growth};
 ghost use Rattle.side_trees.specs.Joining.{OneIsTwo, OneHeap};
 ghost use Rattle.side_trees.specs.SharedUnits.{PairEndsAsOne};
 ghost use Rattle.language_rules.specs.Conversation.{script_language, one_heap};
+ghost use Rattle.language_rules.specs.Messages.{request_of, answer_of, code_of, completion_of, asked_code};
+ghost use Rattle.language_rules.specs.States.{State};
+ghost use Rattle.object_operations.specs.declared.operation.Operation.{Operation};
+ghost use Rattle.py_store.specs.Identities.{identity_of};
 
 /// A side is a function of what it reads and begins, and grows with them.
 pub fn sides_grow()
@@ -38,4 +43,16 @@ pub fn boxes_are_read()
 /// What a side writes of an exception, the other reads as that exception.
 pub fn exceptions_are_read()
     ensures { (r : Raised) → raised_in (exception_content r) ≡ r }
+{}
+
+/// A request is read as the operation that was asked, as the other side sees it: each value in it crosses, and names and
+/// operators stay.
+pub fn requests_are_read()
+    ensures { (s : State) (o : Operation) → code_of (request_of s o) ≡ asked_code (identity_of s.cells) o }
+{}
+
+/// An answer is read as the end that it tells of: a value as the other side sees it, an exception as it is.
+pub fn answers_are_read()
+    ensures value { (s : State) (v : Value) → completion_of (answer_of s (Gives v)) ≡ Gives (crossed (identity_of s.cells) v) }
+    ensures exception { (s : State) (r : Raised) → completion_of (answer_of s (Raises r)) ≡ Raises r }
 {}
