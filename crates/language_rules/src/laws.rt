@@ -7,7 +7,7 @@ ghost use Rattle.language_rules.specs.Codes.{Gives, Raises};
 ghost use Rattle.language_rules.specs.ExceptionContents.{exception_content, raised_in};
 ghost use Rattle.side_trees.specs.Growing.{Growth};
 ghost use Rattle.side_trees.specs.Joining.{OneIsTwo, OneHeap};
-ghost use Rattle.side_trees.specs.SharedUnits.{PairEndsAsOne};
+ghost use Rattle.side_trees.specs.SharedUnits.{PairComes, PairEndsAsOne, PairRests};
 ghost use Rattle.language_rules.specs.Conversation.{script_language, one_heap};
 ghost use Rattle.language_rules.specs.Messages.{request_of, answer_of, code_of, completion_of, asked_code};
 ghost use Rattle.language_rules.specs.States.{State};
@@ -32,6 +32,12 @@ pub fn one_heap_is_two_parts()
 /// Two sides that draw their units from one number end as the one interpreter does, whatever is read first.
 pub fn two_sides_end_as_one()
     ensures { PairEndsAsOne script_language one_heap }
+{}
+
+/// Two such sides can always be carried on until all is read, and each course of the one interpreter has two such sides.
+pub fn two_sides_come_to_rest()
+    ensures rests { PairRests script_language one_heap }
+    ensures comes { PairComes script_language one_heap }
 {}
 
 /// What a side boxes, the other reads as the value that it sees: a cell of the sender by its identity, one of its own by
