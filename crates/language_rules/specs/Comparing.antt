@@ -99,7 +99,7 @@ tuple_against xs a b None = operands_step cmp.Eq a b
 
 -- ---- `==`
 
--- each item with_tests its `==`
+-- The recursion is on the left value, so each item of it comes with its own `==`, as a function of the other value.
 abbrev pub with_plain_tests : List (Plain → Value → Step) → List Plain → List (Value × (Value → Step))
 with_plain_tests (f ∷ fs) (p ∷ ps) = (value.Plain p, f p) ∷ with_plain_tests fs ps
 with_plain_tests _ _ = []

@@ -28,22 +28,22 @@ pub repr_tuple : (vs : List Value) → repr_step (value.Tuple vs) ≡ tuple_text
 unfolding repr_step
 repr_tuple vs = gather_value_tuple Step repr_layer vs
 
--- ---- `==` with such a tuple on the left: each item stands with_tests its own `==`
+-- ---- `==` with such a tuple on the left: each item stands with its own `==`
 
 abbrev Compares : Type 0
 Compares = Value → Value → Step
 
-beside_is : (vs : List Value) → with_tests (map (gather_value Compares value_equal_step) vs) vs ≡ map (λ v. (v, equals_step v)) vs
+tests_are : (vs : List Value) → with_tests (map (gather_value Compares value_equal_step) vs) vs ≡ map (λ v. (v, equals_step v)) vs
 unfolding equals_step
-beside_is [] = refl
-beside_is (v ∷ vs) = ap (λ (es : List (Value × (Value → Step))). (v, equals_step v) ∷ es) (beside_is vs)
+tests_are [] = refl
+tests_are (v ∷ vs) = ap (λ (es : List (Value × (Value → Step))). (v, equals_step v) ∷ es) (tests_are vs)
 
 pub equals_tuple : (vs : List Value) (b : Value) → equals_step (value.Tuple vs) b ≡ tuple_against (map (λ v. (v, equals_step v)) vs) (value.Tuple vs) b (tuple_items b)
 unfolding equals_step
 equals_tuple vs b =
     ap (λ (f : Compares). f (value.Tuple vs) b) (gather_value_tuple Compares value_equal_step vs)
     ∙ ap (λ (l : Value-F Value). value_against (Value-F.Tuple (map (gather_value Compares value_equal_step) vs)) l (value.Tuple vs) b) (look_value_tuple vs)
-    ∙ ap (λ (es : List (Value × (Value → Step))). tuple_against es (value.Tuple vs) b (tuple_items b)) (beside_is vs)
+    ∙ ap (λ (es : List (Value × (Value → Step))). tuple_against es (value.Tuple vs) b (tuple_items b)) (tests_are vs)
 
 -- ---- `==` with a plain tuple on the left
 
