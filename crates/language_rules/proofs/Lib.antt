@@ -1,6 +1,7 @@
 pub mod BoxLaw
 pub mod CallbackScripts
 pub mod CollectionExamples
+pub mod CornerExamples
 pub mod ExceptionLaw
 pub mod ExpressionExamples
 pub mod ObjectExamples
@@ -22,6 +23,7 @@ pub mod back_b
 pub mod callback_a
 pub mod callback_b
 pub mod closure
+pub mod corners
 pub mod cycle_a
 pub mod cycle_b
 pub mod cyclic
@@ -29,9 +31,12 @@ pub mod drain_a
 pub mod drain_b
 pub mod evaluated
 pub mod executed
+pub mod far
 pub mod first_a
 pub mod first_b
 pub mod flow
+pub mod grows
+pub mod inner_text
 pub mod kept_a
 pub mod kept_b
 pub mod keys
@@ -42,12 +47,17 @@ pub mod lookup_b
 pub mod methods
 pub mod nested_a
 pub mod nested_b
+pub mod nothing
 pub mod one
 pub mod operators
+pub mod outer_text
 pub mod raised_a
 pub mod raised_b
 pub mod raises_a
 pub mod raises_b
 pub mod refused
+pub mod runs_inside
+pub mod searched_while_it_grows
+pub mod shown_while_it_grows
 pub mod texts_a
 pub mod widest
