@@ -298,6 +298,16 @@ inspects : ended (ends classes (Spend (Inspect 6) (λ a. Return a))) ≡ gives (
 unfolding rules_computing
 inspects = refl
 
+-- an own attribute that is no function hides the method of the class, and each name comes once
+abbrev hiding : List Cell
+hiding = cell.Namespace [] [] ∷ cell.Root ∷ cell.Function 0 0 1
+    ∷ cell.Class (codes "C") None (record { name = codes "f"; value = own 3 } ∷ record { name = codes "g"; value = own 3 } ∷ [])
+    ∷ cell.Instance 4 (record { name = codes "f"; value = number 1 } ∷ record { name = codes "h"; value = own 3 } ∷ record { name = codes "g"; value = own 3 } ∷ []) ∷ []
+
+hidden : ended (ends hiding (Spend (Inspect 5) (λ a. Return a))) ≡ gives (value.Plain (plain.Tuple (shown (codes "h") ∷ shown (codes "g") ∷ []))) 1
+unfolding rules_computing
+hidden = refl
+
 -- 6 is an instance of 5, whose methods are functions 3, which gives 5, and 4, which gives NotImplemented
 abbrev methods : List ℕ → ℕ → List Cell
 methods name function = cell.Namespace [] [] ∷ cell.Root ∷ cell.Function 0 1 1 ∷ cell.Function 1 1 1 ∷ cell.Class (codes "C") None (record { name = name; value = own function } ∷ []) ∷ cell.Instance 5 [] ∷ []
