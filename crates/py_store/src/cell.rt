@@ -1,4 +1,5 @@
 use crate::entries::Entries;
+use crate::values::Values;
 use object_operations::BuiltinMethod;
 use rp_base::{Text, Value};
 use sqlite_items::Items;
@@ -28,7 +29,7 @@ pub enum Which {
 /// An object of a program (Python Language Reference, "Data model"). Other cells are named by their numbers.
 #[derive(Drop)]
 pub enum Cell {
-    List(Items<Value>),
+    List(Values),
     /// `shape` counts the operations that added or took out keys.
     Dict {
         entries: Entries,

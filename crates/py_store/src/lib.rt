@@ -9,6 +9,7 @@ mod names;
 mod store;
 #[cfg(test)]
 mod tests;
+mod values;
 
 pub use cell::{Binding, Cell, Method, Which};
 pub use entries::Entries;
@@ -20,3 +21,4 @@ pub use laws::{
 };
 pub use names::{bind, bound, find_binding, unbind};
 pub use store::{Place, Store, cell_number};
+pub use values::Values;

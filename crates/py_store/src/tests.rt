@@ -1,4 +1,4 @@
-use crate::{Binding, Cell, Entries, Key, Store, bind, bound, cell_number, unbind};
+use crate::{Binding, Cell, Entries, Key, Store, Values, bind, bound, cell_number, unbind};
 use rp_base::{NoMemory, Plain, Side, Text, Value};
 use sqlite_items::Items;
 use std::alloc::Global;
@@ -46,6 +46,30 @@ fn entries(rt: HostRuntime) -> Result<(), Fail> {
     assert_eq!(rt; (value_at(&entries, 0), value_at(&entries, 1)), (12, 11));
     entries.take(&Key::new(Plain::Bool(true)));
     assert_eq!(rt; (value_at(&entries, 0), value_at(&entries, 1)), (11, -1));
+    Ok(())
+}
+
+/// [1, 3, 2], where 3 was put in front of 2
+fn three_values(alloc: Global) -> Result<Values, NoMemory> {
+    let mut values = Values::new(alloc);
+    values.push(int(1))?;
+    values.push(int(2))?;
+    if values.len() > 1 {
+        values.insert(1, int(3))?;
+    }
+    Ok(values)
+}
+
+#[test]
+fn values(rt: HostRuntime) -> Result<(), Fail> {
+    let mut values = three_values(rt.alloc())?;
+    values.reverse();
+    let numbers = (
+        number(values.as_slice().first()),
+        number(values.as_slice().get(1)),
+        number(values.as_slice().get(2)),
+    );
+    assert_eq!(rt; numbers, (2, 3, 1));
     Ok(())
 }
 
