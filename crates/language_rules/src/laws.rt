@@ -1,11 +1,14 @@
-ghost use Rattle.std.specs.Prelude.{◌≡◌, ℕ, Some};
+ghost use Rattle.std.specs.Prelude.{◌≡◌, ℕ, Some, true};
+ghost use Rattle.rp_base.specs.declared.exceptions.Beyond.TheVariants as beyond;
 ghost use Rattle.rp_base.specs.declared.exceptions.Raised.{Raised};
 ghost use Rattle.rp_base.specs.declared.identity.IdPack.{IdPack};
 ghost use Rattle.rp_base.specs.declared.value.Value.{Value};
 ghost use Rattle.language_rules.specs.Boxing.{boxed, unboxed, crossed};
-ghost use Rattle.language_rules.specs.Codes.{Gives, Raises};
+ghost use Rattle.language_rules.specs.Codes.{Code, Completion, Gives, Raises};
 ghost use Rattle.language_rules.specs.ExceptionContents.{exception_content, raised_in};
+ghost use Rattle.language_rules.specs.Going.{RuleTree, judged_arguments, operates, too_heavy};
 ghost use Rattle.side_trees.specs.Growing.{Growth};
+ghost use Rattle.side_trees.specs.Trees.{Stop};
 ghost use Rattle.side_trees.specs.Joining.{OneIsTwo, OneHeap};
 ghost use Rattle.side_trees.specs.SharedUnits.{PairComes, PairEndsAsOne, PairRests};
 ghost use Rattle.language_rules.specs.Conversation.{script_language, one_heap};
@@ -61,4 +64,9 @@ pub fn requests_are_read()
 pub fn answers_are_read()
     ensures value { (s : State) (v : Value) → completion_of (answer_of s (Gives v)) ≡ Gives (crossed (identity_of s.cells) v) }
     ensures exception { (s : State) (r : Raised) → completion_of (answer_of s (Raises r)) ≡ Raises r }
+{}
+
+/// An operation whose arguments are together heavier than a value may be is neither carried out nor asked.
+pub fn heavy_arguments_end_the_run()
+    ensures { (o : Operation) (c : Completion → Code) (k : Completion → RuleTree) → too_heavy (judged_arguments o) ≡ true → operates o c k ≡ Stop beyond.Size }
 {}

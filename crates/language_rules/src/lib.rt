@@ -5,9 +5,9 @@ mod laws;
 mod text_laws;
 
 pub use laws::{
-    answers_are_read, boxes_are_read, exceptions_are_read, one_heap_is_two_parts,
-    one_interpreter_is_two_sides, requests_are_read, sides_grow, two_sides_come_to_rest,
-    two_sides_end_as_one,
+    answers_are_read, boxes_are_read, exceptions_are_read, heavy_arguments_end_the_run,
+    one_heap_is_two_parts, one_interpreter_is_two_sides, requests_are_read, sides_grow,
+    two_sides_come_to_rest, two_sides_end_as_one,
 };
 pub use text_laws::{
     places_are_least, positions_are_places, texts_are_split, texts_are_stripped,
