@@ -1,14 +1,12 @@
 -- Cells that are taken out and put back.
-use Rattle.std.proofs.Common.{◌≡◌, ℕ, zero, suc, ◌-◌, ◌<◌, ◌≤◌, List, [], ◌∷◌, length, slice_get, slice_set, Option, Some, None, Result, Ok, Err, OnErr, refl, sym, ◌∙◌, ap, arith}
-use Rattle.std.specs.Bool.{⊤}
+use Rattle.std.proofs.Common.{◌≡◌, ℕ, zero, suc, ◌-◌, ◌<◌, ◌≤◌, List, [], ◌∷◌, length, slice_get, slice_set, Option, Some, Result, Ok, Err, OnErr, refl, sym, ◌∙◌, ap, arith}
 use Rattle.rp_base.specs.declared.ends.OpEnd.{OpEnd}
 use Rattle.rp_base.specs.declared.ends.OpEnd.TheVariants as op_end
-use Rattle.rp_base.specs.declared.exceptions.Beyond.{Beyond}
 use Rattle.rp_base.specs.declared.value.Value.{Value}
 use Rattle.py_store.specs.declared.cell.Cell.{Cell}
 use Rattle.py_store.specs.declared.cell.Cell.TheVariants as cell
 use Rattle.py_store.specs.Cells.{Cells, cell_of, with_cell}
-use Rattle.language_rules.specs.Codes.{Completion, Gives, Raises}
+use Rattle.language_rules.specs.Codes.{Gives}
 use Rattle.language_rules.specs.Going.{RuleTree, reads_cell, on_cell}
 use Rattle.language_rules.specs.States.{State, cell_at, set_cell}
 use Rattle.py_lists.specs.Lists.{IsListCell, IsList}

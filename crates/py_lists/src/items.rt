@@ -7,8 +7,8 @@ ghost use Rattle.py_lists.specs.Lists.{ChangesList};
 
 use crate::ends::{fails, none};
 use crate::positions::{as_int, place_among};
-use rp_base::{Beyond, ExcKind, OpEnd, Plain, Value};
 use py_store::Values;
+use rp_base::{Beyond, ExcKind, OpEnd, Plain, Value};
 use std::alloc::Global;
 
 /// The greatest length that `len` gives.

@@ -5,8 +5,8 @@ ghost use Rattle.py_lists.specs.Lists.{ChangesList};
 
 use crate::ends::{fails, none};
 use crate::positions::{as_int, is_count, nearest_place, place_among};
-use rp_base::{Beyond, ExcKind, OpEnd, Value};
 use py_store::Values;
+use rp_base::{Beyond, ExcKind, OpEnd, Value};
 use std::alloc::Global;
 
 /// The greatest number of items of a list.
