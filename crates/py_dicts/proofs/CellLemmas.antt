@@ -1,6 +1,5 @@
 -- Cells that are taken out and put back.
-use Rattle.std.proofs.Common.{◌≡◌, ℕ, zero, suc, ◌-◌, ◌+◌, ◌<◌, ◌≤◌, List, [], ◌∷◌, ◌++◌, length, slice_get, slice_set, Option, Some, None, Result, Ok, Err, OnErr, refl, sym, ◌∙◌, ap, arith}
-use Rattle.std.specs.Bool.{⊤}
+use Rattle.std.proofs.Common.{◌≡◌, ℕ, zero, suc, ◌-◌, ◌+◌, ◌<◌, ◌≤◌, List, [], ◌∷◌, ◌++◌, length, slice_get, slice_set, Option, Some, Result, Ok, Err, OnErr, refl, sym, ◌∙◌, ap, arith}
 use Rattle.rp_base.specs.declared.ends.OpEnd.{OpEnd}
 use Rattle.rp_base.specs.declared.ends.OpEnd.TheVariants as op_end
 use Rattle.rp_base.specs.declared.value.Value.{Value}
@@ -13,7 +12,7 @@ use Rattle.py_store.specs.Cells.{Cells, cell_of, with_cell}
 use Rattle.py_store.specs.EntryLists.{EntryList}
 use Rattle.language_rules.specs.AtOnce.{at_once, Comes, over}
 use Rattle.language_rules.specs.Calls.{method_of_cell}
-use Rattle.language_rules.specs.Codes.{Completion, Gives, Raises}
+use Rattle.language_rules.specs.Codes.{Gives}
 use Rattle.language_rules.specs.Going.{RuleTree, reads_cell, on_cell}
 use Rattle.language_rules.specs.States.{State, cell_at, set_cell}
 use Rattle.py_dicts.specs.DictCells.{IsDictCell, IsDict, view_method}

@@ -68,12 +68,7 @@ pub(crate) fn get_item(
 }
 
 /// The value of a key, or else None.
-pub(crate) fn get(
-    alloc: Global,
-    entries: &Entries,
-    shape: u64,
-    key: &Value,
-) -> Result<Value, OpEnd>
+pub(crate) fn get(alloc: Global, entries: &Entries, shape: u64, key: &Value) -> Result<Value, OpEnd>
     ensures { Reads (λ n. dict_method n entries.now shape method.Get (key.now ∷ [])) result }
 {
     let Value::Plain(key) = key else {

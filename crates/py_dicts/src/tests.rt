@@ -63,7 +63,12 @@ fn one_dict(alloc: Global) -> Result<Store, NoMemory> {
 fn contents(store: &Store) -> (usize, i128, i128, u64) {
     match store.get(1) {
         Some(Cell::Dict { entries, shape }) => {
-            (entries.len(), first_key(entries), last_value(entries), *shape)
+            (
+                entries.len(),
+                first_key(entries),
+                last_value(entries),
+                *shape,
+            )
         }
         _ => (0, -1, -1, 9),
     }
@@ -137,15 +142,34 @@ fn methods(rt: HostRuntime) -> Result<(), Fail> {
     let got = method(alloc, &mut store, BuiltinMethod::Get, &[truth()]);
     let other = method(alloc, &mut store, BuiltinMethod::Get, &[int(2), int(7)]);
     assert_eq!(rt; (got, other), (Told::Int(10), Told::Int(7)));
-    let known = method(alloc, &mut store, BuiltinMethod::SetDefault, &[truth(), int(7)]);
-    let added = method(alloc, &mut store, BuiltinMethod::SetDefault, &[int(2), int(7)]);
-    assert_eq!(rt; (known, added, contents(&store)), (Told::Int(10), Told::Int(7), (2, 1, 7, 1)));
+    let known = method(
+        alloc,
+        &mut store,
+        BuiltinMethod::SetDefault,
+        &[truth(), int(7)],
+    );
+    let added = method(
+        alloc,
+        &mut store,
+        BuiltinMethod::SetDefault,
+        &[int(2), int(7)],
+    );
+    assert_eq!(rt;
+        (known, added, contents(&store)),
+        (Told::Int(10), Told::Int(7), (2, 1, 7, 1))
+    );
     let popped = method(alloc, &mut store, BuiltinMethod::Pop, &[truth()]);
     let absent = method(alloc, &mut store, BuiltinMethod::Pop, &[int(1)]);
     let other = method(alloc, &mut store, BuiltinMethod::Pop, &[int(1), int(8)]);
-    assert_eq!(rt; (popped, absent, other), (Told::Int(10), Told::Missing(1), Told::Int(8)));
+    assert_eq!(rt;
+        (popped, absent, other),
+        (Told::Int(10), Told::Missing(1), Told::Int(8))
+    );
     let cell = method(alloc, &mut store, BuiltinMethod::Pop, &[Value::Own(1)]);
-    assert_eq!(rt; (cell, contents(&store)), (Told::Beyond(Beyond::Key), (1, 2, 7, 2)));
+    assert_eq!(rt;
+        (cell, contents(&store)),
+        (Told::Beyond(Beyond::Key), (1, 2, 7, 2))
+    );
     let cleared = method(alloc, &mut store, BuiltinMethod::Clear, &[]);
     assert_eq!(rt; (cleared, contents(&store)), (Told::None, (0, -1, -1, 3)));
     Ok(())
@@ -165,7 +189,10 @@ fn operations(rt: HostRuntime) -> Result<(), Fail> {
     let length = read(alloc, &store, Special::Len, &[]);
     let filled = read(alloc, &store, Special::Bool, &[]);
     let has = read(alloc, &store, Special::Contains, &[int(3)]);
-    assert_eq!(rt; (length, filled, has), (Told::Int(2), Told::Bool(true), Told::Bool(false)));
+    assert_eq!(rt;
+        (length, filled, has),
+        (Told::Int(2), Told::Bool(true), Told::Bool(false))
+    );
     let deleted = change(alloc, &mut store, Special::DelItem, &[truth()]);
     assert_eq!(rt; (deleted, contents(&store)), (Told::None, (1, 2, 13, 2)));
     assert_eq!(rt; view(&mut store), Told::Cell(2));
