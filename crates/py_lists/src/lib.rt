@@ -1,4 +1,4 @@
-//! The operations on lists that search, drain and ask nothing.
+//! The operations on lists that neither search, drain nor ask.
 #![tactic(auto)]
 
 mod ends;
