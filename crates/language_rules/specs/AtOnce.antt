@@ -46,3 +46,18 @@ over cells s = record s { cells = cells }
 -- In every state with the cells before: the computation ends at once as the answer tells, a value with the cells after, and any other end with those before.
 abbrev pub CarriesOut : RuleTree → List Cell → Result Value OpEnd → List Cell → Type 0
 CarriesOut t before answer after = (s : State) → Comes t (over before s) answer (over after s) (over before s)
+
+-- ---- computations that look at no state
+
+-- The computation is nothing but this end: a value, an exception, or a way out of the subset. Want of memory tells nothing.
+abbrev pub Computes : RuleTree → Result Value OpEnd → Type 0
+Computes t (Ok v) = t ≡ Return (Gives v)
+Computes t (Err (op_end.Raise r)) = t ≡ Return (Raises r)
+Computes t (Err (op_end.Beyond b)) = t ≡ Stop b
+Computes t (Err op_end.NoMemory) = ⊤
+
+-- the same; where there is no value, an object has to be asked first, and nothing is told
+abbrev pub ComputesUnlessAsked : RuleTree → Result (Option Value) OpEnd → Type 0
+ComputesUnlessAsked t (Ok (Some v)) = Computes t (Ok v)
+ComputesUnlessAsked t (Ok None) = ⊤
+ComputesUnlessAsked t (Err e) = Computes t (Err e)

@@ -20,7 +20,7 @@ use Rattle.language_rules.specs.Conversions.{gives_int, int_of, absolute, ord_of
 use Rattle.language_rules.specs.Ordering.{gives_best, gives_sum, gives_sorted}
 
 -- one clause for each builtin and number of arguments; no text is accepted that calls one with another number
-abbrev pub builtin_rule : Builtin → List Value → RuleTree
+unfoldable pub builtin_rule : Builtin → List Value → RuleTree
 builtin_rule builtin.Print vs = prints vs
 builtin_rule builtin.Len (v ∷ []) = length_of v
 builtin_rule builtin.Str [] = gives_text []

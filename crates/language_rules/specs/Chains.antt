@@ -46,7 +46,7 @@ opposite (value.Plain (plain.Bool b)) = gives (boolean (not b))
 opposite _ = nowhere
 
 -- One link of a chain. `in` is asked of the container, which stands on the right; `is` has None on the right.
-abbrev pub link_rule : Comparison → Value → Value → RuleTree
+unfoldable pub link_rule : Comparison → Value → Value → RuleTree
 link_rule (comparison.Order o) a b = carry (compare_step o a b)
 link_rule comparison.In a b = contains_in b a
 link_rule comparison.NotIn a b = bind (contains_in b a) (on_value opposite)

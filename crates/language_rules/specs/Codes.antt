@@ -6,20 +6,10 @@ use Rattle.rp_base.specs.declared.operators.CmpOp.{CmpOp}
 use Rattle.rp_base.specs.declared.value.Value.{Value}
 use Rattle.object_operations.specs.declared.operation.Operation.{Operation}
 
--- Where code runs: the number of its text, of its function (none at the top of a text), and its scope: the cell of the call's variables, or the namespace.
-pub record Env : Type 0 where
-  pub text : ℕ
-  pub function : Option ℕ
-  pub scope : ℕ
-
--- How a piece of code ends. Gives: a value, which for a statement is None. Raises: an exception. Returns, Breaks, Continues: a statement that leaves its function or its loop.
--- Drained: the items of a collection that was gone over.
-pub data Completion : Type 0 where
-  Gives : Value → Completion
-  Raises : Raised → Completion
-  Returns : Value → Completion
-  Breaks Continues : Completion
-  Drained : List Value → Completion
+-- where code runs, and how a piece of code ends
+pub use Rattle.object_operations.specs.declared.ending.Env.{Env}
+pub use Rattle.object_operations.specs.declared.ending.Completion.{Completion}
+pub use Rattle.object_operations.specs.declared.ending.Completion.TheVariants.{Gives, Raises, Returns, Breaks, Continues, Drained}
 
 -- what the items of a collection that is gone over are put into, whose limit is judged with each of them
 pub data Container : Type 0 where

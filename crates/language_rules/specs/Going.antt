@@ -1,5 +1,5 @@
 -- How clauses are put together: trees of the language, and what goes on after a value.
-use Rattle.std.specs.Prelude.{ℕ, ◌+◌, Bool, true, false, nat_lt, List, [], ◌∷◌, map, sum, Option, Some, None, if◌then◌else◌}
+use Rattle.std.specs.Prelude.{ℕ, ◌+◌, Bool, true, false, nat_lt, List, [], ◌∷◌, ◌++◌, map, sum, Option, Some, None, if◌then◌else◌}
 use Rattle.rp_base.specs.declared.exceptions.Beyond.{Beyond}
 use Rattle.rp_base.specs.declared.exceptions.Beyond.TheVariants as beyond
 use Rattle.rp_base.specs.declared.exceptions.ExcKind.{ExcKind}
@@ -95,10 +95,14 @@ on_items f a = Return a
 abbrev pub evaluates : Env → ℕ → (Value → RuleTree) → RuleTree
 evaluates env n f = Spend (Node env n) (on_value f)
 
+-- the values of expressions, from the left, behind those that are there
+abbrev pub evaluates_behind : Env → List Value → List ℕ → (List Value → RuleTree) → RuleTree
+evaluates_behind env vs [] f = f vs
+evaluates_behind env vs (n ∷ ns) f = evaluates env n (λ v. evaluates_behind env (vs ++ v ∷ []) ns f)
+
 -- the values of expressions, from the left
 abbrev pub evaluates_all : Env → List ℕ → (List Value → RuleTree) → RuleTree
-evaluates_all env [] f = f []
-evaluates_all env (n ∷ ns) f = evaluates env n (λ v. evaluates_all env ns (λ vs. f (v ∷ vs)))
+evaluates_all env ns f = evaluates_behind env [] ns f
 
 -- statements in turn
 abbrev pub executes_all : Env → List ℕ → RuleTree

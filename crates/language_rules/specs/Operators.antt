@@ -35,7 +35,7 @@ left_out false = unsupported
 -- ---- unary operators
 
 -- a unary operator ("Unary arithmetic and bitwise operations"): `-` of an object is asked of it, and no object has `+` or `~`
-abbrev pub unary_rule : UnaryOp → Value → RuleTree
+unfoldable pub unary_rule : UnaryOp → Value → RuleTree
 unary_rule o (value.Plain p) = answers (unary o p)
 unary_rule unary_op.Neg v = if is_reference v then asked (operation.Special v special.Neg []) else unsupported
 unary_rule _ v = unsupported
@@ -149,7 +149,7 @@ object_rule (Some s) o a b = asked (operation.Special a s (b ∷ []))
 object_rule None o a b = unasked_rule o a b
 
 -- a binary operator ("Binary arithmetic operations", "Shifting operations", "Binary bitwise operations"); nothing is asked of an object that stands on the right alone
-abbrev pub binary_rule : BinaryOp → Value → Value → RuleTree
+unfoldable pub binary_rule : BinaryOp → Value → Value → RuleTree
 binary_rule o a b =
     if is_reference a then object_rule (special_for o) o a b
     else (if is_reference b then unasked_rule o a b else value_rule o a b)

@@ -67,7 +67,7 @@ item_within name key (Some items) = gives_item_of name items key
 item_within name key None = no_items
 
 -- `v[key]`
-abbrev pub item_of : Value → Value → RuleTree
+unfoldable pub item_of : Value → Value → RuleTree
 item_of v key =
     if is_reference v then asked (operation.Special v special.GetItem (key ∷ []))
     else item_within (sequence_name v) key (items_at_hand v)

@@ -2,10 +2,12 @@
 //! methods.
 #![tactic(auto)]
 
+mod ending;
 mod method;
 mod operation;
 mod special;
 
+pub use ending::{Completion, Env};
 pub use method::BuiltinMethod;
 pub use operation::{Control, Operation, Outcome};
 pub use special::Special;
