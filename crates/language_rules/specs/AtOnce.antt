@@ -5,6 +5,7 @@ use Rattle.rp_base.specs.declared.ends.OpEnd.{OpEnd}
 use Rattle.rp_base.specs.declared.ends.OpEnd.TheVariants as op_end
 use Rattle.rp_base.specs.declared.exceptions.Raised.{Raised}
 use Rattle.rp_base.specs.declared.value.Value.{Value}
+use Rattle.py_ast.specs.declared.program.Program.{Program}
 use Rattle.py_store.specs.declared.cell.Cell.{Cell}
 use Rattle.side_trees.specs.Trees.{Tree, Return, Act, Stop}
 use Rattle.language_rules.specs.Codes.{Gives, Raises}
@@ -42,6 +43,10 @@ Changes t before answer after = (n : ℕ) (s : State) → cell_at s n ≡ Some b
 -- the state with these cells
 abbrev pub over : List Cell → State → State
 over cells s = record s { cells = cells }
+
+-- the state with these cells and these texts
+abbrev pub stated : State → List Cell → List Program → State
+stated s cells texts = record s { cells = cells; texts = texts }
 
 -- In every state with the cells before: the computation ends at once as the answer tells, a value with the cells after, and any other end with those before.
 abbrev pub CarriesOut : RuleTree → List Cell → Result Value OpEnd → List Cell → Type 0

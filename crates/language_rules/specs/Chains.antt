@@ -16,15 +16,22 @@ use Rattle.language_rules.specs.Truth.{on_truth}
 
 -- ---- `or` and `and`: the value of the first operand that decides, else of the last, whose truth is not asked
 
+-- from an operand on, with those behind it
+abbrev pub or_from : Env → ℕ → List ℕ → RuleTree
+or_from env n [] = evaluated env n
+or_from env n (m ∷ ns) = evaluates env n (λ v. on_truth v (λ holds. if holds then gives v else or_from env m ns))
+
 abbrev pub or_rule : Env → List ℕ → RuleTree
 or_rule env [] = nowhere
-or_rule env (n ∷ []) = evaluated env n
-or_rule env (n ∷ m ∷ ns) = evaluates env n (λ v. on_truth v (λ holds. if holds then gives v else or_rule env (m ∷ ns)))
+or_rule env (n ∷ ns) = or_from env n ns
+
+abbrev pub and_from : Env → ℕ → List ℕ → RuleTree
+and_from env n [] = evaluated env n
+and_from env n (m ∷ ns) = evaluates env n (λ v. on_truth v (λ holds. if holds then and_from env m ns else gives v))
 
 abbrev pub and_rule : Env → List ℕ → RuleTree
 and_rule env [] = nowhere
-and_rule env (n ∷ []) = evaluated env n
-and_rule env (n ∷ m ∷ ns) = evaluates env n (λ v. on_truth v (λ holds. if holds then and_rule env (m ∷ ns) else gives v))
+and_rule env (n ∷ ns) = and_from env n ns
 
 -- `not`: the opposite of the operand's truth
 abbrev pub not_rule : Env → ℕ → RuleTree
@@ -53,11 +60,15 @@ link_rule comparison.NotIn a b = bind (contains_in b a) (on_value opposite)
 link_rule comparison.Is a b = gives (boolean (is_none_value a))
 link_rule comparison.IsNot a b = gives (boolean (not (is_none_value a)))
 
--- The links behind an operand whose value is there, so that an operand in the middle is evaluated once. The chain stops at the first link that is false, whose value it gives; the truth of the last is not asked.
+-- A link whose operands are there, with those behind it, so that an operand in the middle is evaluated once. The chain stops at the first link that is false, whose value it gives; the truth of the last is not asked.
+abbrev pub links_from : Env → List Link → Comparison → Value → Value → RuleTree
+links_from env [] c a b = link_rule c a b
+links_from env (l ∷ ls) c a b = bind (link_rule c a b) (on_value (λ v. on_truth v (λ holds. if holds then evaluates env l.right (λ d. links_from env ls l.comparison b d) else gives v)))
+
+-- the links behind an operand whose value is there
 abbrev pub links_rule : Env → Value → List Link → RuleTree
 links_rule env a [] = nowhere
-links_rule env a (l ∷ []) = evaluates env l.right (λ b. link_rule l.comparison a b)
-links_rule env a (l ∷ m ∷ ls) = evaluates env l.right (λ b. bind (link_rule l.comparison a b) (on_value (λ v. on_truth v (λ holds. if holds then links_rule env b (m ∷ ls) else gives v))))
+links_rule env a (l ∷ ls) = evaluates env l.right (λ b. links_from env ls l.comparison a b)
 
 abbrev pub chain_rule : Env → ℕ → List Link → RuleTree
 chain_rule env first links = evaluates env first (λ a. links_rule env a links)
