@@ -7,6 +7,7 @@ pub mod ExpressionExamples
 pub mod ObjectExamples
 pub mod PairExamples
 pub mod RequestLaw
+pub mod RunLemmas
 pub mod ScriptExamples
 pub mod ServiceExamples
 pub mod Showing

@@ -2,6 +2,7 @@
 #![tactic(auto)]
 
 mod laws;
+mod running_laws;
 mod text_laws;
 
 pub use laws::{
@@ -9,6 +10,7 @@ pub use laws::{
     one_heap_is_two_parts, one_interpreter_is_two_sides, requests_are_read, sides_grow,
     two_sides_come_to_rest, two_sides_end_as_one,
 };
+pub use running_laws::what_ends_at_once_goes_on;
 pub use text_laws::{
     places_are_least, positions_are_places, texts_are_split, texts_are_stripped,
     texts_begin_and_end,

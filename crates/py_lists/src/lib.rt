@@ -3,13 +3,11 @@
 
 mod ends;
 mod items;
-mod laws;
 mod methods;
 mod operations;
 mod positions;
 #[cfg(test)]
 mod tests;
 
-pub use laws::what_ends_at_once_goes_on;
 pub use methods::MOST_ITEMS;
 pub use operations::{change_list, list_method, read_list};

@@ -1,5 +1,5 @@
-use Rattle.py_lists.proofs.RunLemmas.{goes_on, leaves}
-use Rattle.py_lists.proofs.laws.what_ends_at_once_goes_on.Goals as goal
+use Rattle.language_rules.proofs.RunLemmas.{goes_on, leaves}
+use Rattle.language_rules.proofs.running_laws.what_ends_at_once_goes_on.Goals as goal
 
 pub returns-clause-goes_on : goal.returns-clause-goes_on
 returns-clause-goes_on c = goes_on

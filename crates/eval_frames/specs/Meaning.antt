@@ -1,0 +1,122 @@
+-- What a frame makes of the end that it waits for, and what a whole stack does next.
+use Rattle.std.specs.Prelude.{◌≡◌, ◌+◌, ◌*◌, ◌≤◌, ℕ, Bool, not, List, [], ◌∷◌, ◌++◌, length, reverse, if◌then◌else◌}
+use Rattle.rp_base.specs.Values.{tuple_of}
+use Rattle.rp_base.specs.declared.value.Value.{Value}
+use Rattle.side_trees.specs.Trees.{Return, Stop, Spend, Do, Ask, bind}
+use Rattle.language_rules.specs.Answers.{tuple_answers, evaluated, gives}
+use Rattle.language_rules.specs.Beginnings.{while_begins}
+use Rattle.language_rules.specs.Builtins.{builtin_rule}
+use Rattle.language_rules.specs.Chains.{or_from, and_from, links_rule, links_from}
+use Rattle.language_rules.specs.Codes.{Completion, Env, Node, Perform, Give}
+use Rattle.language_rules.specs.Going.{RuleTree, boolean, done, evaluates, evaluates_behind, executes_all, on_value}
+use Rattle.language_rules.specs.Loops.{next_turn}
+use Rattle.language_rules.specs.Names.{binds_name}
+use Rattle.language_rules.specs.Operators.{unary_rule, binary_rule, augmented_rule}
+use Rattle.language_rules.specs.Output.{prints}
+use Rattle.language_rules.specs.PlainItems.{item_of}
+use Rattle.language_rules.specs.Running.{runs}
+use Rattle.language_rules.specs.States.{State}
+use Rattle.language_rules.specs.Statements.{otherwise_rule}
+use Rattle.language_rules.specs.Targets.{assigns}
+use Rattle.language_rules.specs.Texts.{executes_suite}
+use Rattle.language_rules.specs.Truth.{on_bool, on_truth}
+use Rattle.eval_frames.specs.declared.frame.Decision.{Decision}
+use Rattle.eval_frames.specs.declared.frame.Decision.TheVariants as decision
+use Rattle.eval_frames.specs.declared.frame.ExpressionFrame.{ExpressionFrame}
+use Rattle.eval_frames.specs.declared.frame.ExpressionFrame.TheVariants as expression_frame
+use Rattle.eval_frames.specs.declared.frame.Frame.{Frame}
+use Rattle.eval_frames.specs.declared.frame.Frame.TheVariants as frame
+use Rattle.eval_frames.specs.declared.frame.Gathering.{Gathering}
+use Rattle.eval_frames.specs.declared.frame.Gathering.TheVariants as gathering
+use Rattle.eval_frames.specs.declared.frame.StatementFrame.{StatementFrame}
+use Rattle.eval_frames.specs.declared.frame.StatementFrame.TheVariants as statement_frame
+use Rattle.eval_frames.specs.declared.next.Next.{Next}
+use Rattle.eval_frames.specs.declared.next.Next.TheVariants as next
+
+-- ---- frames
+
+-- what is done by the truth of a value
+abbrev pub decides : Decision → Value → Bool → RuleTree
+decides (decision.Or env n waiting) v holds = if holds then gives v else or_from env n (reverse waiting)
+decides (decision.And env n waiting) v holds = if holds then and_from env n (reverse waiting) else gives v
+decides decision.Not v holds = gives (boolean (not holds))
+decides (decision.Conditional env first last) v holds = if holds then evaluated env first else evaluated env last
+decides (decision.Link env left l waiting) v holds = if holds then evaluates env l.right (λ d. links_from env (reverse waiting) l.comparison left d) else gives v
+decides (decision.If env body otherwise) v holds = if holds then executes_suite env body else otherwise_rule env otherwise
+decides (decision.While env test body) v holds = if holds then bind (executes_suite env body) (next_turn (while_begins env test body)) else Return done
+
+-- what is made of values
+abbrev pub gathers : Gathering → List Value → RuleTree
+gathers gathering.Tuple vs = tuple_answers (tuple_of vs)
+gathers (gathering.Builtin function) vs = builtin_rule function vs
+
+-- what waits for a value, with that value
+abbrev pub through_expression : ExpressionFrame → Value → RuleTree
+through_expression (expression_frame.Operands env what values waiting) v = evaluates_behind env (values ++ v ∷ []) (reverse waiting) (gathers what)
+through_expression (expression_frame.Test d) v = on_truth v (decides d v)
+through_expression (expression_frame.Unary o) v = unary_rule o v
+through_expression (expression_frame.BinaryLeft env o right) a = evaluates env right (λ b. binary_rule o a b)
+through_expression (expression_frame.BinaryRight o a) b = binary_rule o a b
+through_expression (expression_frame.ItemReceiver env key) v = evaluates env key (λ k. item_of v k)
+through_expression (expression_frame.ItemKey v) k = item_of v k
+through_expression (expression_frame.ChainFirst env l waiting) a = links_rule env a (l ∷ reverse waiting)
+through_expression (expression_frame.ChainRight env a comparison waiting) b = links_from env (reverse waiting) comparison a b
+
+abbrev pub through_statement : StatementFrame → Value → RuleTree
+through_statement statement_frame.Alone v = Return done
+through_statement (statement_frame.Suite env waiting) v = executes_all env (reverse waiting)
+through_statement (statement_frame.Assign env target) v = assigns env target v
+through_statement (statement_frame.AugmentName env o name old) v = bind (augmented_rule o old v) (on_value (λ w. binds_name env name w (Return done)))
+
+-- what waits, with the end that it waits for: an exception, and any end that leaves more, passes what waits for a value
+abbrev pub resume : Frame → Completion → RuleTree
+resume (frame.Expression f) a = on_value (through_expression f) a
+resume (frame.Statement f) a = on_value (through_statement f) a
+resume (frame.Truth d v) a = on_bool (decides d v) a
+resume (frame.While env test body) a = next_turn (while_begins env test body) a
+
+-- ---- stacks
+
+-- all that waits, the innermost first, with an end
+abbrev pub rest : List Frame → Completion → RuleTree
+rest [] a = Return a
+rest (f ∷ fs) a = bind (resume f a) (rest fs)
+
+-- What comes next over a stack, whose innermost frame is the last.
+abbrev pub meant : List Frame → Next → RuleTree
+meant fs (next.Enter env n) = Spend (Node env n) (rest (reverse fs))
+meant fs (next.Perform o) = Do (Perform o) (λ a. Give a) (rest (reverse fs))
+meant fs (next.Give a) = rest (reverse fs) a
+meant fs (next.Print vs) = bind (prints vs) (rest (reverse fs))
+meant fs (next.Ask o) = Ask o (λ a. Give a) (rest (reverse fs))
+meant fs (next.Leave b) = Stop b
+
+-- What comes next over the new stack is this computation, and then what waited before.
+abbrev pub Means : List Frame → Next → RuleTree → List Frame → Type 0
+Means now n t before = meant now n ≡ bind t (rest (reverse before))
+
+-- the same in a state: no run tells them apart
+abbrev pub RunsAs : State → RuleTree → RuleTree → Type 0
+RunsAs s t t' = (units : ℕ) (printed : List ℕ) → runs units t s printed ≡ runs units t' s printed
+
+abbrev pub MeansIn : State → List Frame → Next → RuleTree → List Frame → Type 0
+MeansIn s now n t before = RunsAs s (bind t (rest (reverse before))) (meant now n)
+
+-- the test of a `while`, with the frame that waits for its value
+abbrev pub tests : Env → ℕ → ℕ → (Completion → RuleTree) → RuleTree
+tests env test body k = Spend (Node env test) (λ a. bind (resume (frame.Expression (expression_frame.Test (decision.While env test body))) a) k)
+
+-- ---- progress
+
+-- what is still to be done before a unit is due
+abbrev pub due : Next → ℕ
+due (next.Give a) = 10
+due (next.Print vs) = 11
+due _ = 0
+
+abbrev pub load : List Frame → Next → ℕ
+load fs n = 3 * length fs + due n
+
+-- Over a stack from which a frame was taken, or at a node that begins, little is added.
+abbrev pub IsLight : List Frame → Next → List Frame → Type 0
+IsLight now n before = load now n ≤ 3 * length before + 12

@@ -1,0 +1,127 @@
+use object_operations::Env;
+use py_ast::{Builtin, Comparison, Link};
+use py_store::Values;
+use rp_base::{BinaryOp, Text, UnaryOp, Value};
+use sqlite_items::Items;
+
+/// What is done by the truth of a value. Numbers and links that wait stand the last first.
+#[derive(Drop)]
+pub enum Decision {
+    /// The operands of an `or` from the next on.
+    Or {
+        env: Env,
+        next: u32,
+        waiting: Items<u32>,
+    },
+    /// The operands of an `and` from the next on.
+    And {
+        env: Env,
+        next: u32,
+        waiting: Items<u32>,
+    },
+    Not,
+    Conditional {
+        env: Env,
+        then: u32,
+        otherwise: u32,
+    },
+    /// The links of a chain from the next on, behind an operand.
+    Link {
+        env: Env,
+        left: Value,
+        next: Link,
+        waiting: Items<Link>,
+    },
+    If {
+        env: Env,
+        then: u32,
+        otherwise: Option<u32>,
+    },
+    While {
+        env: Env,
+        test: u32,
+        body: u32,
+    },
+}
+
+/// What is made of values that are evaluated one after another.
+#[derive(Clone, Copy, Debug, PartialEq, Eq)]
+pub enum Gathering {
+    Tuple,
+    Builtin(Builtin),
+}
+
+/// What waits for the value of an expression within an expression, or for a truth.
+#[derive(Drop)]
+pub enum ExpressionFrame {
+    /// The values so far, and the numbers of the expressions that are still to be evaluated.
+    Operands {
+        env: Env,
+        gathering: Gathering,
+        values: Values,
+        waiting: Items<u32>,
+    },
+    Test(Decision),
+    Unary(UnaryOp),
+    BinaryLeft {
+        env: Env,
+        op: BinaryOp,
+        right: u32,
+    },
+    BinaryRight {
+        op: BinaryOp,
+        left: Value,
+    },
+    ItemReceiver {
+        env: Env,
+        key: u32,
+    },
+    ItemKey {
+        receiver: Value,
+    },
+    /// A chain of comparisons, before its first operand.
+    ChainFirst {
+        env: Env,
+        next: Link,
+        waiting: Items<Link>,
+    },
+    /// A link of a chain, before its right operand.
+    ChainRight {
+        env: Env,
+        left: Value,
+        comparison: Comparison,
+        waiting: Items<Link>,
+    },
+}
+
+/// What waits for the value of an expression, or for the end of a statement, within a statement.
+#[derive(Drop)]
+pub enum StatementFrame {
+    Alone,
+    Suite {
+        env: Env,
+        waiting: Items<u32>,
+    },
+    Assign {
+        env: Env,
+        target: u32,
+    },
+    /// An augmented assignment to a name, before its right side.
+    AugmentName {
+        env: Env,
+        op: BinaryOp,
+        name: Text,
+        old: Value,
+    },
+}
+
+/// What waits for the end of a piece of code.
+#[derive(Drop)]
+pub enum Frame {
+    Expression(ExpressionFrame),
+    Statement(StatementFrame),
+    /// The truth of this value was asked of an object.
+    Truth { decision: Decision, value: Value },
+    /// The suite of a `while`.
+    While { env: Env, test: u32, body: u32 },
+}

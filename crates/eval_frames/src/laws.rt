@@ -1,0 +1,22 @@
+ghost use Rattle.std.specs.Prelude.{◌≡◌, ℕ, List, reverse};
+ghost use Rattle.object_operations.specs.declared.ending.Completion.{Completion};
+ghost use Rattle.object_operations.specs.declared.ending.Env.{Env};
+ghost use Rattle.side_trees.specs.Trees.{bind};
+ghost use Rattle.language_rules.specs.Beginnings.{while_begins};
+ghost use Rattle.language_rules.specs.Going.{RuleTree};
+ghost use Rattle.language_rules.specs.States.{State};
+ghost use Rattle.eval_frames.specs.declared.frame.Frame.{Frame};
+ghost use Rattle.eval_frames.specs.declared.frame.Decision.TheVariants as decision;
+ghost use Rattle.eval_frames.specs.declared.frame.ExpressionFrame.TheVariants as expression_frame;
+ghost use Rattle.eval_frames.specs.declared.frame.Frame.TheVariants as frame;
+ghost use Rattle.eval_frames.specs.Meaning.{RunsAs, rest, resume, tests};
+
+/// A turn of a `while` is its test, over a frame that waits for the test's value.
+pub fn a_loop_tests_again()
+    ensures { (s : State) (env : Env) (test body : ℕ) (k : Completion → RuleTree) → RunsAs s (bind (while_begins env test body) k) (tests env test body k) }
+{}
+
+/// What waits for a computation may as well stand on the stack.
+pub fn what_waits_is_pushed()
+    ensures { (t : RuleTree) (f : Frame) (k : Completion → RuleTree) → bind (bind t (resume f)) k ≡ bind t (λ a. bind (resume f a) k) }
+{}
