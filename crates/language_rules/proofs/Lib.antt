@@ -1,3 +1,4 @@
+pub mod AloneLaw
 pub mod BoxLaw
 pub mod CallbackScripts
 pub mod CollectionExamples

@@ -1,10 +1,12 @@
 //! The rule book of the language: what each piece of code does at its side, clause by clause, in `specs/`.
 #![tactic(auto)]
 
+mod alone_laws;
 mod laws;
 mod running_laws;
 mod text_laws;
 
+pub use alone_laws::a_script_alone_is_one_side;
 pub use laws::{
     answers_are_read, boxes_are_read, exceptions_are_read, heavy_arguments_end_the_run,
     one_heap_is_two_parts, one_interpreter_is_two_sides, requests_are_read, sides_grow,
