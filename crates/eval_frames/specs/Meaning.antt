@@ -91,6 +91,10 @@ meant fs (next.Print vs) = bind (prints vs) (rest (reverse fs))
 meant fs (next.Ask o) = Ask o (λ a. Give a) (rest (reverse fs))
 meant fs (next.Leave b) = Stop b
 
+-- a node that begins, whose end goes to a frame over what waits
+abbrev pub enters_over : Env → ℕ → Frame → List Frame → RuleTree
+enters_over env n f fs = Spend (Node env n) (λ a. bind (resume f a) (rest (reverse fs)))
+
 -- What comes next over the new stack is this computation, and then what waited before.
 abbrev pub Means : List Frame → Next → RuleTree → List Frame → Type 0
 Means now n t before = meant now n ≡ bind t (rest (reverse before))
