@@ -1,45 +1,145 @@
-ghost use Rattle.std.specs.Prelude.{IfOk};
+ghost use Rattle.std.specs.Prelude.{IfOk, List};
+ghost use Rattle.rp_base.specs.declared.value.Value.TheVariants as value;
 ghost use Rattle.py_ast.specs.declared.expression.Expression.TheVariants as expression;
-ghost use Rattle.eval_frames.specs.Meaning.{IsLight, Means};
+ghost use Rattle.eval_frames.specs.declared.frame.Frame.{Frame};
+ghost use Rattle.language_rules.specs.Answers.{gives};
+ghost use Rattle.eval_frames.specs.Meaning.{IsLight, Means, MeansIn};
+ghost use Rattle.language_rules.specs.AtOnce.{stated};
 ghost use Rattle.language_rules.specs.Expressions.{expression_rule};
+ghost use Rattle.language_rules.specs.States.{State};
 
-use eval_frames::{enter_over, Decision, ExpressionFrame, Frame, Gathering, Next, waiting_numbers};
+use crate::calls::begin_call;
+use crate::chains::{begin_all, begin_any, begin_chain};
+use crate::gather::gather;
+use eval_frames::{Decision, ExpressionFrame, Frame, Gathering, Next, answered, enter_over};
+use eval_names::read_name;
 use object_operations::{Completion, Env};
-use py_store::Values;
-use rp_base::{BinaryOp, NoMemory, UnaryOp, Value};
+use py_ast::{Expression, Program};
+use py_store::Store;
+use rp_base::{Beyond, BinaryOp, NoMemory, Plain, UnaryOp, Value};
 use std::alloc::Global;
 
-pub fn begin_unary(stack: &mut Vec<Frame>, env: Env, op: UnaryOp, operand: u32) -> Result<Next, NoMemory>
+/// An expression begins, behind its unit. Displays of lists and dicts, functions without a name, attributes and calls
+/// of objects are not built yet.
+pub fn begin_expression(
+    alloc: Global,
+    stack: &mut Vec<Frame>,
+    store: &Store,
+    texts: &[Program],
+    env: Env,
+    expression: &Expression,
+) -> Result<Next, NoMemory>
+    ensures means { IfOk result (λ next. (fixed : State) → MeansIn (stated fixed store.now.cells texts.now) stack.new.items next (expression_rule env expression.now) stack.old.items) }
+    ensures light { IfOk result (λ next. IsLight stack.new.items next stack.old.items) }
+{
+    match expression {
+        Expression::Name(name) => answered(read_name(alloc, store, texts, env, name.as_str())),
+        Expression::Builtin(_) => Ok(Next::Leave(Beyond::NotYet)),
+        Expression::Constant(value) => begin_constant(alloc, value),
+        Expression::Tuple(items) => begin_tuple(alloc, stack, env, items.as_slice()),
+        &Expression::Conditional {
+            then,
+            test,
+            otherwise,
+        } => begin_conditional(stack, env, then, test, otherwise),
+        Expression::Or(operands) => begin_any(alloc, stack, env, operands.as_slice()),
+        Expression::And(operands) => begin_all(alloc, stack, env, operands.as_slice()),
+        Expression::Compare { first, links } => {
+            begin_chain(alloc, stack, env, *first, links.as_slice())
+        }
+        &Expression::Not(operand) => begin_not(stack, env, operand),
+        &Expression::Unary { op, operand } => begin_unary(stack, env, op, operand),
+        &Expression::Binary { op, left, right } => begin_binary(stack, env, op, left, right),
+        &Expression::Item { receiver, key } => begin_item(stack, env, receiver, key),
+        Expression::Call { callee, arguments } => {
+            begin_call(alloc, stack, texts, env, *callee, arguments.as_slice())
+        }
+        Expression::List(_)
+        | Expression::Dict(_)
+        | Expression::Lambda(_)
+        | Expression::Attribute { .. } => Err(NoMemory),
+    }
+}
+
+fn begin_constant(alloc: Global, constant: &Plain) -> Result<Next, NoMemory>
+    ensures means { IfOk result (λ next. (stack : List Frame) → Means stack next (gives (value.Plain constant.now)) stack) }
+    ensures light { IfOk result (λ next. (stack : List Frame) → IsLight stack next stack) }
+{
+    Ok(Next::Give(Completion::Gives(Value::Plain(constant.copy(alloc)?))))
+}
+
+fn begin_tuple(
+    alloc: Global,
+    stack: &mut Vec<Frame>,
+    env: Env,
+    items: &[u32],
+) -> Result<Next, NoMemory>
+    ensures means { IfOk result (λ next. Means stack.new.items next (expression_rule env (expression.Tuple items.now)) stack.old.items) }
+    ensures light { IfOk result (λ next. IsLight stack.new.items next stack.old.items) }
+{
+    gather(alloc, stack, env, Gathering::Tuple, items)
+}
+
+fn begin_conditional(
+    stack: &mut Vec<Frame>,
+    env: Env,
+    then: u32,
+    test: u32,
+    otherwise: u32,
+) -> Result<Next, NoMemory>
+    ensures means { IfOk result (λ next. Means stack.new.items next (expression_rule env (expression.Conditional then test otherwise)) stack.old.items) }
+    ensures light { IfOk result (λ next. IsLight stack.new.items next stack.old.items) }
+{
+    let decision = Decision::Conditional {
+        env,
+        then,
+        otherwise,
+    };
+    enter_over(stack, Frame::Test(decision), env, test)
+}
+
+fn begin_not(stack: &mut Vec<Frame>, env: Env, operand: u32) -> Result<Next, NoMemory>
+    ensures means { IfOk result (λ next. Means stack.new.items next (expression_rule env (expression.Not operand)) stack.old.items) }
+    ensures light { IfOk result (λ next. IsLight stack.new.items next stack.old.items) }
+{
+    enter_over(stack, Frame::Test(Decision::Not), env, operand)
+}
+
+fn begin_unary(
+    stack: &mut Vec<Frame>,
+    env: Env,
+    op: UnaryOp,
+    operand: u32,
+) -> Result<Next, NoMemory>
     ensures means { IfOk result (λ next. Means stack.new.items next (expression_rule env (expression.Unary op operand)) stack.old.items) }
     ensures light { IfOk result (λ next. IsLight stack.new.items next stack.old.items) }
 {
     enter_over(stack, Frame::Expression(ExpressionFrame::Unary(op)), env, operand)
 }
 
-pub fn begin_binary(stack: &mut Vec<Frame>, env: Env, op: BinaryOp, left: u32, right: u32) -> Result<Next, NoMemory>
+fn begin_binary(
+    stack: &mut Vec<Frame>,
+    env: Env,
+    op: BinaryOp,
+    left: u32,
+    right: u32,
+) -> Result<Next, NoMemory>
     ensures means { IfOk result (λ next. Means stack.new.items next (expression_rule env (expression.Binary op left right)) stack.old.items) }
     ensures light { IfOk result (λ next. IsLight stack.new.items next stack.old.items) }
 {
-    enter_over(stack, Frame::Expression(ExpressionFrame::BinaryLeft { env, op, right }), env, left)
+    let frame = ExpressionFrame::BinaryLeft { env, op, right };
+    enter_over(stack, Frame::Expression(frame), env, left)
 }
 
-pub fn begin_item(stack: &mut Vec<Frame>, env: Env, receiver: u32, key: u32) -> Result<Next, NoMemory>
+fn begin_item(
+    stack: &mut Vec<Frame>,
+    env: Env,
+    receiver: u32,
+    key: u32,
+) -> Result<Next, NoMemory>
     ensures means { IfOk result (λ next. Means stack.new.items next (expression_rule env (expression.Item receiver key)) stack.old.items) }
     ensures light { IfOk result (λ next. IsLight stack.new.items next stack.old.items) }
 {
-    enter_over(stack, Frame::Expression(ExpressionFrame::ItemReceiver { env, key }), env, receiver)
-}
-
-pub fn begin_not(stack: &mut Vec<Frame>, env: Env, operand: u32) -> Result<Next, NoMemory>
-    ensures means { IfOk result (λ next. Means stack.new.items next (expression_rule env (expression.Not operand)) stack.old.items) }
-    ensures light { IfOk result (λ next. IsLight stack.new.items next stack.old.items) }
-{
-    enter_over(stack, Frame::Expression(ExpressionFrame::Test(Decision::Not)), env, operand)
-}
-
-pub fn begin_conditional(stack: &mut Vec<Frame>, env: Env, then: u32, test: u32, otherwise: u32) -> Result<Next, NoMemory>
-    ensures means { IfOk result (λ next. Means stack.new.items next (expression_rule env (expression.Conditional then test otherwise)) stack.old.items) }
-    ensures light { IfOk result (λ next. IsLight stack.new.items next stack.old.items) }
-{
-    enter_over(stack, Frame::Expression(ExpressionFrame::Test(Decision::Conditional { env, then, otherwise })), env, test)
+    let frame = ExpressionFrame::ItemReceiver { env, key };
+    enter_over(stack, Frame::Expression(frame), env, receiver)
 }

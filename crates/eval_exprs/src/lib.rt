@@ -2,7 +2,13 @@
 #![tactic(auto)]
 
 mod begin;
+mod calls;
 mod chains;
+mod decide;
+mod gather;
+mod give;
 
-pub use begin::{begin_binary, begin_unary, begin_item, begin_not, begin_conditional};
-pub use chains::{begin_or, begin_and};
+pub use begin::begin_expression;
+pub use chains::{begin_and, begin_or};
+pub use decide::{decide_and, decide_conditional, decide_link, decide_not, decide_or};
+pub use give::give_expression;

@@ -9,11 +9,10 @@ use Rattle.language_rules.specs.Nodes.{node_rule}
 use Rattle.language_rules.specs.Running.{runs}
 use Rattle.language_rules.specs.States.{State}
 use Rattle.eval_frames.specs.declared.frame.Decision.TheVariants as decision
-use Rattle.eval_frames.specs.declared.frame.ExpressionFrame.TheVariants as expression_frame
 use Rattle.eval_frames.specs.declared.frame.Frame.TheVariants as frame
 use Rattle.eval_frames.specs.Meaning.{RunsAs, resume, tests}
 
 pub turns : (s : State) (env : Env) (test body : ℕ) (k : Completion → RuleTree) → RunsAs s (bind (while_begins env test body) k) (tests env test body k)
 turns s env test body k zero printed = refl
 turns s env test body k (suc u) printed =
-    ap (λ (t : RuleTree). runs u t s printed) (bind-bind (node_rule env test) (resume (frame.Expression (expression_frame.Test (decision.While env test body)))) k)
+    ap (λ (t : RuleTree). runs u t s printed) (bind-bind (node_rule env test) (resume (frame.Test (decision.While env test body))) k)

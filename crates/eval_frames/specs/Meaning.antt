@@ -53,13 +53,12 @@ gathers (gathering.Builtin function) vs = builtin_rule function vs
 -- what waits for a value, with that value
 abbrev pub through_expression : ExpressionFrame → Value → RuleTree
 through_expression (expression_frame.Operands env what values waiting) v = evaluates_behind env (values ++ v ∷ []) (reverse waiting) (gathers what)
-through_expression (expression_frame.Test d) v = on_truth v (decides d v)
 through_expression (expression_frame.Unary o) v = unary_rule o v
 through_expression (expression_frame.BinaryLeft env o right) a = evaluates env right (λ b. binary_rule o a b)
 through_expression (expression_frame.BinaryRight o a) b = binary_rule o a b
 through_expression (expression_frame.ItemReceiver env key) v = evaluates env key (λ k. item_of v k)
 through_expression (expression_frame.ItemKey v) k = item_of v k
-through_expression (expression_frame.ChainFirst env l waiting) a = links_rule env a (l ∷ reverse waiting)
+through_expression (expression_frame.ChainFirst env waiting) a = links_rule env a (reverse waiting)
 through_expression (expression_frame.ChainRight env a comparison waiting) b = links_from env (reverse waiting) comparison a b
 
 abbrev pub through_statement : StatementFrame → Value → RuleTree
@@ -72,6 +71,7 @@ through_statement (statement_frame.AugmentName env o name old) v = bind (augment
 abbrev pub resume : Frame → Completion → RuleTree
 resume (frame.Expression f) a = on_value (through_expression f) a
 resume (frame.Statement f) a = on_value (through_statement f) a
+resume (frame.Test d) a = on_value (λ v. on_truth v (decides d v)) a
 resume (frame.Truth d v) a = on_bool (decides d v) a
 resume (frame.While env test body) a = next_turn (while_begins env test body) a
 
@@ -108,7 +108,7 @@ MeansIn s now n t before = RunsAs s (bind t (rest (reverse before))) (meant now 
 
 -- the test of a `while`, with the frame that waits for its value
 abbrev pub tests : Env → ℕ → ℕ → (Completion → RuleTree) → RuleTree
-tests env test body k = Spend (Node env test) (λ a. bind (resume (frame.Expression (expression_frame.Test (decision.While env test body))) a) k)
+tests env test body k = Spend (Node env test) (λ a. bind (resume (frame.Test (decision.While env test body)) a) k)
 
 -- ---- progress
 

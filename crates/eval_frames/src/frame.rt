@@ -1,6 +1,5 @@
 use object_operations::Env;
 use py_ast::{Builtin, Comparison, Link};
-use py_store::Values;
 use rp_base::{BinaryOp, Text, UnaryOp, Value};
 use sqlite_items::Items;
 
@@ -51,17 +50,16 @@ pub enum Gathering {
     Builtin(Builtin),
 }
 
-/// What waits for the value of an expression within an expression, or for a truth.
+/// What waits for the value of an expression within an expression.
 #[derive(Drop)]
 pub enum ExpressionFrame {
     /// The values so far, and the numbers of the expressions that are still to be evaluated.
     Operands {
         env: Env,
         gathering: Gathering,
-        values: Values,
+        values: Items<Value>,
         waiting: Items<u32>,
     },
-    Test(Decision),
     Unary(UnaryOp),
     BinaryLeft {
         env: Env,
@@ -82,7 +80,6 @@ pub enum ExpressionFrame {
     /// A chain of comparisons, before its first operand.
     ChainFirst {
         env: Env,
-        next: Link,
         waiting: Items<Link>,
     },
     /// A link of a chain, before its right operand.
@@ -120,6 +117,8 @@ pub enum StatementFrame {
 pub enum Frame {
     Expression(ExpressionFrame),
     Statement(StatementFrame),
+    /// The truth of the value decides.
+    Test(Decision),
     /// The truth of this value was asked of an object.
     Truth { decision: Decision, value: Value },
     /// The suite of a `while`.

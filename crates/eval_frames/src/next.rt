@@ -6,8 +6,8 @@ ghost use Rattle.language_rules.specs.Going.{RuleTree};
 ghost use Rattle.language_rules.specs.States.{State};
 
 use object_operations::{Completion, Env, Operation};
-use py_store::Values;
 use rp_base::{Beyond, NoMemory, OpEnd, Value};
+use sqlite_items::Items;
 
 /// What a machine does next.
 #[derive(Drop)]
@@ -19,7 +19,7 @@ pub enum Next {
     /// What waits goes on with this end.
     Give(Completion),
     /// These values are printed.
-    Print(Values),
+    Print(Items<Value>),
     /// An operation is asked of the other side.
     Ask(Operation),
     /// The script leaves the subset.
