@@ -5,5 +5,7 @@ mod ends;
 mod lookup;
 mod names;
 mod place;
+#[cfg(test)]
+mod tests;
 
 pub use names::{bind_name, read_name};
