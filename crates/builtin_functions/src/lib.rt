@@ -2,9 +2,12 @@
 #![tactic(auto)]
 
 mod ends;
+mod functions;
 mod items;
 mod numbers;
 mod texts;
+mod truth;
 
+pub use functions::builtin;
 pub use items::items_at_hand;
 pub use texts::text_of;

@@ -1,9 +1,10 @@
-ghost use Rattle.std.specs.Prelude.{◌≡◌, ◌==◌, ◌||◌, ◌∷◌, [], nat_le, pos, unsigned_abs, chars, encode_utf8_all, Err, IfOk};
+ghost use Rattle.std.specs.Prelude.{◌≡◌, ◌==◌, ◌||◌, ◌∷◌, [], nat_le, pos, unsigned_abs, chars, encode_utf8_all, Err, IfOk, false};
 ghost use Rattle.std.specs.List.{list_any};
-ghost use Rattle.language_rules.specs.AtOnce.{Computes};
+ghost use Rattle.language_rules.specs.AtOnce.{Computes, ComputesUnlessAsked};
 ghost use Rattle.language_rules.specs.Conversions.{absolute, chr_of, character_of, code_of, gives_int, int_of, int_of_text, ord_of, refused_int};
+ghost use Rattle.builtin_functions.specs.AtHand.{NoneOnlyWhere};
 
-use crate::ends::fails;
+use crate::ends::{at_hand, fails};
 use py_ints::{IntText, read_int};
 use py_strs::{strip_text, text_at, text_len};
 use rp_base::{Beyond, ExcKind, NoMemory, OpEnd, Plain, Text, Value};
@@ -20,7 +21,14 @@ fn int(n: i128) -> Result<Value, OpEnd>
 }
 
 /// `int(v)`: of an int or bool the int, of a text the int that it spells with white space around it.
-pub(crate) fn int_of(alloc: Global, value: &Value) -> Result<Value, OpEnd>
+pub(crate) fn int_of(alloc: Global, value: &Value) -> Result<Option<Value>, OpEnd>
+    ensures computes { ComputesUnlessAsked (int_of value.now) result }
+    ensures asked { NoneOnlyWhere false result }
+{
+    at_hand(int_at_hand(alloc, value))
+}
+
+fn int_at_hand(alloc: Global, value: &Value) -> Result<Value, OpEnd>
     ensures { Computes (int_of value.now) result }
 {
     match value {
@@ -64,7 +72,14 @@ fn may_spell_otherwise(bytes: &[u8]) -> bool
 }
 
 /// `abs(v)` of an int or bool.
-pub(crate) fn absolute(value: &Value) -> Result<Value, OpEnd>
+pub(crate) fn absolute(value: &Value) -> Result<Option<Value>, OpEnd>
+    ensures computes { ComputesUnlessAsked (absolute value.now) result }
+    ensures asked { NoneOnlyWhere false result }
+{
+    at_hand(absolute_at_hand(value))
+}
+
+fn absolute_at_hand(value: &Value) -> Result<Value, OpEnd>
     ensures { Computes (absolute value.now) result }
 {
     match value {
@@ -84,7 +99,14 @@ fn size(n: i128) -> Result<Value, OpEnd>
 }
 
 /// `ord(v)` of a text of one character.
-pub(crate) fn ord_of(value: &Value) -> Result<Value, OpEnd>
+pub(crate) fn ord_of(value: &Value) -> Result<Option<Value>, OpEnd>
+    ensures computes { ComputesUnlessAsked (ord_of value.now) result }
+    ensures asked { NoneOnlyWhere false result }
+{
+    at_hand(ord_at_hand(value))
+}
+
+fn ord_at_hand(value: &Value) -> Result<Value, OpEnd>
     ensures { Computes (ord_of value.now) result }
 {
     match value {
@@ -106,7 +128,14 @@ fn code_of(text: &str) -> Result<Value, OpEnd>
 }
 
 /// `chr(v)` of an int.
-pub(crate) fn chr_of(alloc: Global, value: &Value) -> Result<Value, OpEnd>
+pub(crate) fn chr_of(alloc: Global, value: &Value) -> Result<Option<Value>, OpEnd>
+    ensures computes { ComputesUnlessAsked (chr_of value.now) result }
+    ensures asked { NoneOnlyWhere false result }
+{
+    at_hand(chr_at_hand(alloc, value))
+}
+
+fn chr_at_hand(alloc: Global, value: &Value) -> Result<Value, OpEnd>
     ensures { Computes (chr_of value.now) result }
 {
     match value {
