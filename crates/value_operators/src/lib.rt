@@ -8,6 +8,7 @@ mod membership;
 mod operators;
 mod positions;
 mod testing;
+mod tuples;
 
 pub use items::item;
 pub use links::link;
