@@ -75,10 +75,14 @@ abbrev pub instance_attribute : State → ℕ → List ℕ → Option (ℕ × Va
 instance_attribute s n name (Some found) = if found.0 == n then gives found.1 else found_in_class n found.1 (kind_of s found.1)
 instance_attribute s n name None = no_attribute name
 
+-- a class's `mro` is a method of its type in Python, which is outside the subset
+abbrev pub missing_in_class : List ℕ → RuleTree
+missing_in_class name = if bytes_eq name (codes "mro") then Stop beyond.Attribute else no_attribute name
+
 -- of a class: its own attributes, then the base
 abbrev pub class_attribute : List ℕ → Option (ℕ × Value) → RuleTree
 class_attribute name (Some found) = gives found.1
-class_attribute name None = no_attribute name
+class_attribute name None = missing_in_class name
 
 -- a method of a builtin kind is bound to its object; no other attribute of these kinds is in the subset
 abbrev pub bound_method : Value → Option BuiltinMethod → RuleTree
