@@ -4,12 +4,15 @@ ghost use Rattle.language_rules.specs.AtOnce.{ComputesUnlessAsked};
 ghost use Rattle.language_rules.specs.Builtins.{builtin_rule};
 ghost use Rattle.builtin_functions.specs.AtHand.{NoneOnlyWhere, goes_on};
 
-use crate::items::length_of;
+use crate::best::{best_of, best_of_items};
+use crate::items::{length_of, made_tuple, tuple_of};
 use crate::numbers::{absolute, chr_of, int_of, ord_of};
+use crate::sums::sum_of;
 use crate::texts::{repr_of, str_of};
 use crate::truth::truth_of;
 use py_ast::Builtin;
-use rp_base::{Beyond, OpEnd, Plain, Text, Value};
+use rp_base::{Beyond, CmpOp, OpEnd, Plain, Text, Value};
+use sqlite_items::Items;
 use std::alloc::Global;
 
 /// A call of a builtin function with these arguments: its value, its exception, or its way out of the subset. None where
@@ -27,10 +30,10 @@ pub fn builtin(alloc: Global, function: Builtin, arguments: &[Value]) -> Result<
         Builtin::Abs => abs(arguments),
         Builtin::Ord => ord(arguments),
         Builtin::Chr => chr(alloc, arguments),
-        Builtin::Tuple => Err(OpEnd::NoMemory),
-        Builtin::Min => Err(OpEnd::NoMemory),
-        Builtin::Max => Err(OpEnd::NoMemory),
-        Builtin::Sum => Err(OpEnd::NoMemory),
+        Builtin::Tuple => tuple(alloc, arguments),
+        Builtin::Min => min(alloc, arguments),
+        Builtin::Max => max(alloc, arguments),
+        Builtin::Sum => sum(alloc, arguments),
         Builtin::Print | Builtin::Range | Builtin::List | Builtin::Dict | Builtin::Sorted => Ok(None),
     }
 }
@@ -122,6 +125,53 @@ fn repr(alloc: Global, arguments: &[Value]) -> Result<Option<Value>, OpEnd>
 {
     match arguments {
         [value] => repr_of(alloc, value),
+        _ => Err(OpEnd::Beyond(Beyond::Arguments)),
+    }
+}
+
+#[tactic(auto, unfolding(language_rules::specs::Builtins::builtin_rule))]
+fn tuple(alloc: Global, arguments: &[Value]) -> Result<Option<Value>, OpEnd>
+    ensures computes { ComputesUnlessAsked (builtin_rule Builtin.Tuple arguments.now) result }
+    ensures asked { NoneOnlyWhere (goes_on Builtin.Tuple arguments.now) result }
+{
+    match arguments {
+        [] => made_tuple(alloc, Items::new(alloc)),
+        [value] => tuple_of(alloc, value),
+        _ => Err(OpEnd::Beyond(Beyond::Arguments)),
+    }
+}
+
+#[tactic(auto, unfolding(language_rules::specs::Builtins::builtin_rule))]
+fn min(alloc: Global, arguments: &[Value]) -> Result<Option<Value>, OpEnd>
+    ensures computes { ComputesUnlessAsked (builtin_rule Builtin.Min arguments.now) result }
+    ensures asked { NoneOnlyWhere (goes_on Builtin.Min arguments.now) result }
+{
+    match arguments {
+        [] => Err(OpEnd::Beyond(Beyond::Arguments)),
+        [value] => best_of(alloc, CmpOp::Lt, value),
+        _ => best_of_items(alloc, CmpOp::Lt, arguments),
+    }
+}
+
+#[tactic(auto, unfolding(language_rules::specs::Builtins::builtin_rule))]
+fn max(alloc: Global, arguments: &[Value]) -> Result<Option<Value>, OpEnd>
+    ensures computes { ComputesUnlessAsked (builtin_rule Builtin.Max arguments.now) result }
+    ensures asked { NoneOnlyWhere (goes_on Builtin.Max arguments.now) result }
+{
+    match arguments {
+        [] => Err(OpEnd::Beyond(Beyond::Arguments)),
+        [value] => best_of(alloc, CmpOp::Gt, value),
+        _ => best_of_items(alloc, CmpOp::Gt, arguments),
+    }
+}
+
+#[tactic(auto, unfolding(language_rules::specs::Builtins::builtin_rule))]
+fn sum(alloc: Global, arguments: &[Value]) -> Result<Option<Value>, OpEnd>
+    ensures computes { ComputesUnlessAsked (builtin_rule Builtin.Sum arguments.now) result }
+    ensures asked { NoneOnlyWhere (goes_on Builtin.Sum arguments.now) result }
+{
+    match arguments {
+        [value] => sum_of(alloc, value),
         _ => Err(OpEnd::Beyond(Beyond::Arguments)),
     }
 }

@@ -1,8 +1,11 @@
-ghost use Rattle.std.specs.Prelude.{◌≡◌, IfOk, map};
+ghost use Rattle.std.specs.Prelude.{◌≡◌, IfOk, false, is_some, map, not};
 ghost use Rattle.rp_base.specs.declared.plain.Plain.TheVariants as plain;
 ghost use Rattle.rp_base.specs.declared.value.Value.TheVariants as value;
+ghost use Rattle.rp_base.specs.Values.{tuple_of};
+ghost use Rattle.language_rules.specs.Answers.{tuple_answers};
 ghost use Rattle.language_rules.specs.AtOnce.{ComputesUnlessAsked};
-ghost use Rattle.language_rules.specs.Draining.{characters_of, ints_of_bytes, items_at_hand};
+ghost use Rattle.language_rules.specs.Codes.{ATuple};
+ghost use Rattle.language_rules.specs.Draining.{drains_into, characters_of, ints_of_bytes, items_at_hand};
 ghost use Rattle.language_rules.specs.Kinds.{is_reference};
 ghost use Rattle.language_rules.specs.PlainItems.{length_of};
 ghost use Rattle.builtin_functions.specs.AtHand.{NoneOnlyWhere};
@@ -11,7 +14,8 @@ use crate::ends::fails;
 use crate::numbers::character;
 use py_store::Values;
 use py_strs::text_len;
-use rp_base::{ExcKind, NoMemory, OpEnd, Plain, Value};
+use rp_base::{ExcKind, NoMemory, OpEnd, Plain, TupleEnd, Value, make_tuple};
+use sqlite_items::Items;
 use std::alloc::Global;
 
 /// The items of a text, a byte string or a tuple; none of any other value.
@@ -87,4 +91,28 @@ fn number(n: i128) -> Value
     ensures { result ≡ value.Plain (plain.Int n) }
 {
     Value::Plain(Plain::Int(n))
+}
+
+/// `tuple(v)`; None where the value has no items at hand.
+pub(crate) fn tuple_of(alloc: Global, value: &Value) -> Result<Option<Value>, OpEnd>
+    ensures computes { ComputesUnlessAsked (drains_into ATuple value.now (λ items. tuple_answers (tuple_of items))) result }
+    ensures asked { NoneOnlyWhere (not (is_some (items_at_hand value.now))) result }
+{
+    match items_at_hand(alloc, value) {
+        Ok(Some(items)) => made_tuple(alloc, Items::from_vec(items.into_vec())),
+        Ok(None) => Ok(None),
+        Err(_) => Err(OpEnd::NoMemory),
+    }
+}
+
+/// The tuple of these items.
+pub(crate) fn made_tuple(alloc: Global, items: Items<Value>) -> Result<Option<Value>, OpEnd>
+    ensures computes { ComputesUnlessAsked (tuple_answers (tuple_of items)) result }
+    ensures asked { NoneOnlyWhere false result }
+{
+    match make_tuple(alloc, items) {
+        Ok(tuple) => Ok(Some(tuple)),
+        Err(TupleEnd::Beyond(beyond)) => Err(OpEnd::Beyond(beyond)),
+        Err(TupleEnd::NoMemory) => Err(OpEnd::NoMemory),
+    }
 }

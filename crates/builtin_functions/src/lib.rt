@@ -1,10 +1,12 @@
 //! The builtin functions of the language, where their arguments are at hand.
 #![tactic(auto)]
 
+mod best;
 mod ends;
 mod functions;
 mod items;
 mod numbers;
+mod sums;
 mod texts;
 mod truth;
 
