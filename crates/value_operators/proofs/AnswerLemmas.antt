@@ -1,9 +1,7 @@
 -- Answers of operations on plain values, as the rules have them.
-use Rattle.std.proofs.Common.{◌≡◌, Option, Some, Result, Ok, Err, refl, sym, ap, subst}
+use Rattle.std.proofs.Common.{◌≡◌, Result, Ok, Err, refl, sym, ap, subst}
 use Rattle.rp_base.specs.declared.plain.Plain.{Plain}
 use Rattle.rp_base.specs.declared.ends.OpEnd.{OpEnd}
-use Rattle.rp_base.specs.declared.value.Value.{Value}
-use Rattle.rp_base.specs.declared.value.Value.TheVariants as value
 use Rattle.py_plain.specs.Answers.{Answers, OrNoMemory}
 use Rattle.py_plain.specs.declared.ends.PlainEnd.{PlainEnd}
 use Rattle.py_plain.specs.declared.ends.PlainEnd.TheVariants as plain_end

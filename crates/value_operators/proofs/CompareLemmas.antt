@@ -1,7 +1,6 @@
 -- Comparisons of two plain values, and a plain value in a plain tuple.
-use Rattle.std.proofs.Common.{◌≡◌, ℕ, Bool, true, false, not, ◌||◌, List, [], ◌∷◌, map, is_some, chars, Option, Some, None, Result, Ok, Err, refl, ◌∙◌, sym, ap, subst}
+use Rattle.std.proofs.Common.{◌≡◌, ℕ, Bool, true, false, ◌||◌, List, [], ◌∷◌, map, is_some, chars, Option, Some, None, Result, Ok, Err, refl, ◌∙◌, sym, ap, subst}
 use Rattle.rp_base.specs.declared.ends.OpEnd.{OpEnd}
-use Rattle.rp_base.specs.declared.ends.OpEnd.TheVariants as op_end
 use Rattle.rp_base.specs.declared.operators.CmpOp.{CmpOp}
 use Rattle.rp_base.specs.declared.operators.CmpOp.TheVariants as cmp
 use Rattle.rp_base.specs.declared.plain.Plain.{Plain, out-Plain, roll-Plain}
@@ -17,19 +16,17 @@ use Rattle.py_plain.specs.Answers.{Answers, OrNoMemory}
 use Rattle.py_plain.specs.declared.ends.PlainEnd.{PlainEnd}
 use Rattle.py_plain.specs.declared.ends.PlainEnd.TheVariants as plain_end
 use Rattle.py_strs.specs.Searching.{IsLeastPlace}
-use Rattle.side_trees.specs.Trees.{bind}
 use Rattle.language_rules.specs.Answers.{gives}
 use Rattle.language_rules.specs.TextFunctions.{least_place}
 use Rattle.language_rules.specs.AtOnce.{ComputesUnlessAsked}
-use Rattle.language_rules.specs.Chains.{opposite}
 use Rattle.language_rules.specs.Codes.{Step}
 use Rattle.language_rules.specs.Comparing.{plain_equal_step, plain_equals, equals_step, compare_step, found_step}
-use Rattle.language_rules.specs.Going.{RuleTree, boolean, carry, and_value, on_value}
+use Rattle.language_rules.specs.Going.{boolean, carry, and_value}
 use Rattle.language_rules.specs.PlainItems.{contains_within, tuple_contains}
 use Rattle.language_rules.specs.Searching.{search_tuple_step}
 use Rattle.language_rules.specs.StepLaws.{items_of_a_plain_tuple}
 use Rattle.language_rules.specs.Truth.{tells, tells_answer, truth_step, and_bool}
-use Rattle.value_operators.specs.Answering.{bool_given, end_given, TestsUnlessAsked}
+use Rattle.value_operators.specs.Answering.{end_given}
 use Rattle.value_operators.proofs.AnswerLemmas.{or_no_memory}
 use Rattle.value_operators.specs.Finding.{is_among}
 
@@ -120,13 +117,3 @@ in_text c x t u text part found b h g k l least f e =
     ∙ ap (λ (s : List ℕ). gives (boolean (is_some (least_place (chars s) (chars u))))) (sym k)
     ∙ ap (λ (p : List ℕ). gives (boolean (is_some (least_place (chars text) (chars p))))) (sym l)
     ∙ ap (λ (d : Bool). gives (boolean d)) (same_found (chars text) (chars part) (least_place (chars text) (chars part)) found (least (chars text) (chars part)) f ∙ sym e)
-
--- ---- the opposite
-
-pub turned : (t : RuleTree) (b : Bool) → TestsUnlessAsked t (Ok (Some b)) → ComputesUnlessAsked (bind t (on_value opposite)) (Ok (Some (boolean (not b))))
-turned t b h = ap (λ (u : RuleTree). bind u (on_value opposite)) h
-
-pub handed_on : (t : RuleTree) (e : OpEnd) → TestsUnlessAsked t (Err e) → ComputesUnlessAsked (bind t (on_value opposite)) (Err e)
-handed_on t (op_end.Raise r) h = ap (λ (u : RuleTree). bind u (on_value opposite)) h
-handed_on t (op_end.Beyond b) h = ap (λ (u : RuleTree). bind u (on_value opposite)) h
-handed_on t op_end.NoMemory h = tt

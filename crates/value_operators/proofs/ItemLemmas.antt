@@ -1,5 +1,5 @@
 -- Items of texts, byte strings and tuples by their places.
-use Rattle.std.proofs.Common.{◌≡◌, ℕ, ℤ, pos, List, [], ◌∷◌, map, length, slice_get, chars, codes, encode_utf8_all, Option, Some, None, option_map, option_and_then, Result, refl, ◌∙◌, sym, ap, subst}
+use Rattle.std.proofs.Common.{◌≡◌, ℕ, ℤ, List, [], ◌∷◌, map, length, slice_get, chars, codes, encode_utf8_all, Option, Some, None, option_map, option_and_then, Result, refl, ◌∙◌, sym, ap, subst}
 use Rattle.std.proofs.lemmas.List.{length-map}
 use Rattle.std.proofs.lemmas.Option.{slice_get-map}
 use Rattle.rp_base.specs.declared.ends.OpEnd.{OpEnd}

@@ -8,6 +8,8 @@ mod membership;
 mod operators;
 mod positions;
 mod testing;
+#[cfg(test)]
+mod tests;
 mod tuples;
 
 pub use items::item;
