@@ -17,7 +17,11 @@ use std::alloc::Global;
 
 /// A call of a builtin function with these arguments: its value, its exception, or its way out of the subset. None where
 /// an object has to be asked, a cell made or something printed first.
-pub fn builtin(alloc: Global, function: Builtin, arguments: &[Value]) -> Result<Option<Value>, OpEnd>
+pub fn builtin(
+    alloc: Global,
+    function: Builtin,
+    arguments: &[Value],
+) -> Result<Option<Value>, OpEnd>
     ensures computes { ComputesUnlessAsked (builtin_rule function arguments.now) result }
     ensures asked { NoneOnlyWhere (goes_on function arguments.now) result }
 {
@@ -34,7 +38,9 @@ pub fn builtin(alloc: Global, function: Builtin, arguments: &[Value]) -> Result<
         Builtin::Min => min(alloc, arguments),
         Builtin::Max => max(alloc, arguments),
         Builtin::Sum => sum(alloc, arguments),
-        Builtin::Print | Builtin::Range | Builtin::List | Builtin::Dict | Builtin::Sorted => Ok(None),
+        Builtin::Print | Builtin::Range | Builtin::List | Builtin::Dict | Builtin::Sorted => Ok(
+            None,
+        ),
     }
 }
 

@@ -7,6 +7,8 @@ mod functions;
 mod items;
 mod numbers;
 mod sums;
+#[cfg(test)]
+mod tests;
 mod texts;
 mod truth;
 

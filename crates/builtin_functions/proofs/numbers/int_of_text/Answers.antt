@@ -1,9 +1,7 @@
-use Rattle.std.proofs.Common.{◌≡◌, ℤ, Option, None, Ok, Err, Result, ap, sym, ◌∙◌}
-use Rattle.std.specs.Str.{chars}
+use Rattle.std.proofs.Common.{ℤ, Option, None, Ok, Err, Result, ap, sym, ◌∙◌}
 use Rattle.py_ints.specs.declared.reading.IntText.{IntText}
 use Rattle.py_ints.specs.declared.reading.IntText.TheVariants as int_text
 use Rattle.py_ints.specs.IntTexts.{int_value}
-use Rattle.language_rules.specs.TextFunctions.{stripped}
 use Rattle.builtin_functions.proofs.IntTexts.{spelled, read, gives, gives_none, gives_some}
 use Rattle.builtin_functions.proofs.numbers.int_of_text.Goals as goal
 
