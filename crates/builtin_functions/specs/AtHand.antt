@@ -39,7 +39,7 @@ abbrev pub NoneOnlyWhere : {A : Type 0} → Bool → Result (Option A) OpEnd →
 NoneOnlyWhere leave (Ok None) = IsTrue leave
 NoneOnlyWhere leave _ = ⊤
 
--- What a call of a function with these arguments has to do first that is not at hand: to print, to make a cell, to ask an object. A single argument that has no items is looked at again, for its kind.
+-- What a call of a function with these arguments has to do first that is not at hand: to print, to make a cell, to ask an object.
 abbrev pub goes_on : Builtin → List Value → Bool
 goes_on builtin.Print vs = true
 goes_on builtin.Range vs = true
@@ -50,8 +50,8 @@ goes_on builtin.Len (v ∷ []) = is_reference v
 goes_on builtin.Bool (v ∷ []) = is_reference v
 goes_on builtin.Str (v ∷ []) = not (is_plain v)
 goes_on builtin.Repr (v ∷ []) = not (is_plain v)
-goes_on builtin.Tuple (v ∷ []) = not (is_some (items_at_hand v))
-goes_on builtin.Min (v ∷ []) = not (is_some (items_at_hand v))
-goes_on builtin.Max (v ∷ []) = not (is_some (items_at_hand v))
-goes_on builtin.Sum (v ∷ []) = not (is_some (items_at_hand v))
+goes_on builtin.Tuple (v ∷ []) = is_reference v
+goes_on builtin.Min (v ∷ []) = is_reference v
+goes_on builtin.Max (v ∷ []) = is_reference v
+goes_on builtin.Sum (v ∷ []) = is_reference v
 goes_on _ _ = false

@@ -7,20 +7,20 @@ ghost use Rattle.language_rules.specs.Ordering.{best_of, best_plain, gives_best}
 ghost use Rattle.builtin_functions.specs.AtHand.{NoneOnlyWhere};
 
 use crate::ends::fails;
-use crate::items::items_at_hand;
+use crate::items::{items_at_hand, without_items};
 use py_plain::{PlainEnd, plain_compare};
 use rp_base::{Beyond, CmpOp, ExcKind, NoMemory, OpEnd, Plain, Value, to_plain};
 use sqlite_items::Items;
 use std::alloc::Global;
 
-/// `min(v)` by `<` and `max(v)` by `>`; None where the value has no items at hand.
+/// `min(v)` by `<` and `max(v)` by `>`; None where an object has to be asked.
 pub(crate) fn best_of(alloc: Global, op: CmpOp, value: &Value) -> Result<Option<Value>, OpEnd>
     ensures computes { ComputesUnlessAsked (drains value.now (gives_best op)) result }
-    ensures asked { NoneOnlyWhere (not (is_some (items_at_hand value.now))) result }
+    ensures asked { NoneOnlyWhere (is_reference value.now) result }
 {
     match items_at_hand(alloc, value) {
         Ok(Some(items)) => best_of_items(alloc, op, items.as_slice()),
-        Ok(None) => Ok(None),
+        Ok(None) => without_items(alloc, value),
         Err(_) => Err(OpEnd::NoMemory),
     }
 }

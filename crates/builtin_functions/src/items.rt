@@ -5,8 +5,9 @@ ghost use Rattle.rp_base.specs.Values.{tuple_of};
 ghost use Rattle.language_rules.specs.Answers.{tuple_answers};
 ghost use Rattle.language_rules.specs.AtOnce.{ComputesUnlessAsked};
 ghost use Rattle.language_rules.specs.Codes.{ATuple};
-ghost use Rattle.language_rules.specs.Draining.{drains_into, characters_of, ints_of_bytes, items_at_hand};
-ghost use Rattle.language_rules.specs.Kinds.{is_reference};
+ghost use Rattle.language_rules.specs.Draining.{drains_into, drains_kind, characters_of, ints_of_bytes, items_at_hand};
+ghost use Rattle.language_rules.specs.Going.{RuleTree};
+ghost use Rattle.language_rules.specs.Kinds.{is_reference, on_kind};
 ghost use Rattle.language_rules.specs.PlainItems.{length_of};
 ghost use Rattle.builtin_functions.specs.AtHand.{NoneOnlyWhere};
 
@@ -93,14 +94,27 @@ fn number(n: i128) -> Value
     Value::Plain(Plain::Int(n))
 }
 
-/// `tuple(v)`; None where the value has no items at hand.
+/// What goes over a value that has no items at hand: an object has to be asked, and nothing else can be gone over.
+pub(crate) fn without_items(alloc: Global, value: &Value) -> Result<Option<Value>, OpEnd>
+    ensures computes { (over : RuleTree) → ComputesUnlessAsked (on_kind value.now (drains_kind over)) result }
+    ensures asked { NoneOnlyWhere (is_reference value.now) result }
+{
+    match value {
+        Value::Own(_) => Ok(None),
+        Value::Proxy(_) => Ok(None),
+        Value::Plain(_) => Err(fails(alloc, ExcKind::TypeError, "not iterable")),
+        Value::Tuple(_) => Err(fails(alloc, ExcKind::TypeError, "not iterable")),
+    }
+}
+
+/// `tuple(v)`; None where an object has to be asked.
 pub(crate) fn tuple_of(alloc: Global, value: &Value) -> Result<Option<Value>, OpEnd>
     ensures computes { ComputesUnlessAsked (drains_into ATuple value.now (λ items. tuple_answers (tuple_of items))) result }
-    ensures asked { NoneOnlyWhere (not (is_some (items_at_hand value.now))) result }
+    ensures asked { NoneOnlyWhere (is_reference value.now) result }
 {
     match items_at_hand(alloc, value) {
         Ok(Some(items)) => made_tuple(alloc, Items::from_vec(items.into_vec())),
-        Ok(None) => Ok(None),
+        Ok(None) => without_items(alloc, value),
         Err(_) => Err(OpEnd::NoMemory),
     }
 }

@@ -6,18 +6,18 @@ ghost use Rattle.language_rules.specs.Ordering.{adds_up, all_ints, gives_sum};
 ghost use Rattle.language_rules.specs.TextFunctions.{as_int};
 ghost use Rattle.builtin_functions.specs.AtHand.{NoneOnlyWhere};
 
-use crate::items::items_at_hand;
+use crate::items::{items_at_hand, without_items};
 use rp_base::{Beyond, NoMemory, OpEnd, Plain, Value};
 use std::alloc::Global;
 
-/// `sum(v)`; None where the value has no items at hand.
+/// `sum(v)`; None where an object has to be asked.
 pub(crate) fn sum_of(alloc: Global, value: &Value) -> Result<Option<Value>, OpEnd>
     ensures computes { ComputesUnlessAsked (drains value.now gives_sum) result }
-    ensures asked { NoneOnlyWhere (not (is_some (items_at_hand value.now))) result }
+    ensures asked { NoneOnlyWhere (is_reference value.now) result }
 {
     match items_at_hand(alloc, value) {
         Ok(Some(items)) => sum_of_items(alloc, items.as_slice()),
-        Ok(None) => Ok(None),
+        Ok(None) => without_items(alloc, value),
         Err(_) => Err(OpEnd::NoMemory),
     }
 }

@@ -34,15 +34,17 @@ abbrev pub kind_there : Option Cell → Option Kind
 kind_there (Some c) = kind_of_cell c
 kind_there None = None
 
--- the kind of the object that a value refers to; what is no reference has none
+-- the kind of the object that a value refers to, in a state; what is no reference has none
 abbrev pub kind_of : State → Value → Option Kind
 kind_of s (value.Own n) = kind_there (cell_at s n)
 kind_of s (value.Proxy id) = Some (kind_named id.name id.inst_no)
 kind_of s _ = None
 
--- on with the kind of a value
+-- on with the kind of a value: only that of an own cell is looked up
 abbrev pub on_kind : Value → (Option Kind → RuleTree) → RuleTree
-on_kind v f = looks (λ s. f (kind_of s v))
+on_kind (value.Own n) f = looks (λ s. f (kind_there (cell_at s n)))
+on_kind (value.Proxy id) f = f (Some (kind_named id.name id.inst_no))
+on_kind _ f = f None
 
 -- whether a value is a reference
 abbrev pub is_reference : Value → Bool
