@@ -9,13 +9,13 @@ use Rattle.py_store.specs.declared.cell.Binding.{Binding}
 use Rattle.py_store.specs.declared.cell.Cell.{Cell}
 use Rattle.py_store.specs.declared.cell.Cell.TheVariants as cell
 use Rattle.side_trees.specs.Trees.{Return, Stop}
+use Rattle.language_rules.proofs.CellLaws.{changed}
 use Rattle.language_rules.specs.AtOnce.{at_once, Comes, over}
 use Rattle.language_rules.specs.Codes.{Env, Gives}
 use Rattle.language_rules.specs.Going.{done, none, sets_cell}
 use Rattle.language_rules.specs.Names.{Place, binds_at, binds_global, binds_name, binds_variable, place_of}
 use Rattle.language_rules.specs.States.{State, namespace_number, set_cell}
 use Rattle.language_rules.specs.Texts.{has_name}
-use Rattle.eval_names.proofs.CellLemmas.{changed}
 use Rattle.eval_names.proofs.ReadingLemmas.{looked}
 
 -- what holds, holds on an error

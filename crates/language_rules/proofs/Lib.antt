@@ -1,6 +1,7 @@
 pub mod AloneLaw
 pub mod BoxLaw
 pub mod CallbackScripts
+pub mod CellLaws
 pub mod CollectionExamples
 pub mod CornerExamples
 pub mod ExceptionLaw

@@ -2,8 +2,8 @@ use Rattle.std.proofs.Common.{◌≡◌, false, ap}
 use Rattle.py_store.specs.declared.cell.Cell.TheVariants as cell
 use Rattle.language_rules.specs.States.{namespace_number}
 use Rattle.language_rules.specs.Texts.{has_name}
+use Rattle.language_rules.proofs.CellLaws.{unchanged}
 use Rattle.eval_names.proofs.BindingLemmas.{global_bound, on_error}
-use Rattle.eval_names.proofs.CellLemmas.{unchanged}
 use Rattle.eval_names.proofs.names.bind_global.Goals as goal
 
 pub returns-in_err-bound-clause-kept : goal.returns-in_err-bound-clause-kept

@@ -1,7 +1,7 @@
 use Rattle.std.proofs.Common.{ap}
 use Rattle.py_store.specs.declared.cell.Cell.TheVariants as cell
+use Rattle.language_rules.proofs.CellLaws.{unchanged}
 use Rattle.eval_names.proofs.BindingLemmas.{on_error, variable_bound}
-use Rattle.eval_names.proofs.CellLemmas.{unchanged}
 use Rattle.eval_names.proofs.names.bind_variable.Goals as goal
 
 pub returns-in_err-bound-clause-kept : goal.returns-in_err-bound-clause-kept

@@ -1,6 +1,7 @@
 use Rattle.py_store.specs.declared.cell.Cell.TheVariants as cell
 use Rattle.language_rules.specs.Perform.{special_of_cell}
-use Rattle.py_lists.proofs.CellLemmas.{carried, kept_store}
+use Rattle.language_rules.proofs.CellLaws.{carried}
+use Rattle.py_lists.proofs.CellLemmas.{kept_store}
 use Rattle.py_lists.proofs.operations.change_list.Goals as goal
 
 pub returns-clause-comes : goal.returns-clause-comes

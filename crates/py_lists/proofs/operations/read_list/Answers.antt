@@ -1,6 +1,6 @@
 use Rattle.py_store.specs.declared.cell.Cell.TheVariants as cell
 use Rattle.language_rules.specs.Perform.{special_of_cell}
-use Rattle.py_lists.proofs.CellLemmas.{read}
+use Rattle.language_rules.proofs.CellLaws.{read}
 use Rattle.py_lists.proofs.operations.read_list.Goals as goal
 
 pub returns : goal.returns
