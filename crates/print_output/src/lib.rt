@@ -1,0 +1,6 @@
+//! What `print` writes.
+#![tactic(auto)]
+
+mod printing;
+
+pub use printing::print;
