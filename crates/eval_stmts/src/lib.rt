@@ -1,0 +1,10 @@
+//! The steps of a machine at statements: how each begins, and how it goes on with the value or the end of a part.
+#![tactic(auto)]
+
+mod branches;
+mod loops;
+mod suites;
+
+pub use branches::{begin_if, decide_if, execute_otherwise};
+pub use loops::{begin_while, decide_while, end_turn};
+pub use suites::{execute_further, execute_suite};
