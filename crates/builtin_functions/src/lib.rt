@@ -1,0 +1,10 @@
+//! The builtin functions of the language, where their arguments are at hand.
+#![tactic(auto)]
+
+mod ends;
+mod items;
+mod numbers;
+mod texts;
+
+pub use items::items_at_hand;
+pub use texts::text_of;
