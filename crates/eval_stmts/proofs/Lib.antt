@@ -1,0 +1,5 @@
+pub mod Beginning
+pub mod Bindings
+pub mod LoopTurns
+pub mod NameValues
+pub mod PlainOperands
