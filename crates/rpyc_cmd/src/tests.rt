@@ -264,6 +264,76 @@ fn files_of_frames(rt: HostRuntime) -> Result<(), Fail> {
     Ok(())
 }
 
+/// Runs one script with `run`, and compares the status and all that was written. No wire is begun.
+fn check_alone(
+    rt: &impl Abort,
+    alloc: Global,
+    words: &[&str],
+    status: Status,
+    text: &str,
+) -> Result<(), AllocError> {
+    let mut devices = make_devices(alloc, b"print(1)\nprint([1])\n", b"x = [1]\ny = (\n")?;
+    let ended = run(alloc, words, &mut devices)?;
+    assert_eq!(rt; ended, status);
+    assert_eq!(rt; devices.out.taken(), text.as_bytes());
+    assert!(rt; devices.ab.begun().is_none() && devices.ba.begun().is_none());
+    Ok(())
+}
+
+#[test]
+fn refused_runs(rt: HostRuntime) -> Result<(), Fail> {
+    let alloc = rt.alloc();
+    let calls: [Call; 11] = [
+        (&["run"], Status::Words, "rpyc: words at 1\n"),
+        (&["run", "-a.py"], Status::Words, "rpyc: words at 1\n"),
+        (
+            &["run", "a.py", "b.py"],
+            Status::Words,
+            "rpyc: words at 2\n",
+        ),
+        (
+            &["run", "a.py", "--fuel=5"],
+            Status::Words,
+            "rpyc: words at 2\n",
+        ),
+        (
+            &["run", "a.py", "--fuel"],
+            Status::Words,
+            "rpyc: words at 3\n",
+        ),
+        (
+            &["run", "a.py", "--fuel", "05"],
+            Status::Words,
+            "rpyc: words at 3\n",
+        ),
+        (
+            &["run", "a.py", "--fuel", "1000000001"],
+            Status::Words,
+            "rpyc: words at 3\n",
+        ),
+        (
+            &["run", "a.py", "--fuel", "0", "--fuel"],
+            Status::Words,
+            "rpyc: words at 4\n",
+        ),
+        (&["run", "gone"], Status::File, "rpyc: gone not there\n"),
+        (
+            &["run", "a.py"],
+            Status::Script,
+            "rpyc: a.py line 2 rule NotYet\n",
+        ),
+        (
+            &["run", "b.py", "--fuel", "1000000000"],
+            Status::Script,
+            "rpyc: b.py line 2 rule P1\n",
+        ),
+    ];
+    for (words, status, text) in calls {
+        check_alone(&rt, alloc, words, status, text)?;
+    }
+    Ok(())
+}
+
 #[test]
 fn devices_that_fail(rt: HostRuntime) -> Result<(), Fail> {
     let alloc = rt.alloc();
