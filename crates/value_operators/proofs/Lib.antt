@@ -1,2 +1,4 @@
 pub mod AnswerLemmas
 pub mod CompareLemmas
+pub mod ItemLemmas
+pub mod TupleLemmas

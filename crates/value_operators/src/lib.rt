@@ -2,11 +2,15 @@
 #![tactic(auto)]
 
 mod ends;
+mod items;
 mod links;
 mod membership;
 mod operators;
+mod positions;
 mod testing;
+mod tuples;
 
+pub use items::item;
 pub use links::link;
 pub use operators::{binary, unary};
 pub use testing::truth;

@@ -7,6 +7,7 @@ ghost use Rattle.language_rules.specs.Operators.{unary_rule, binary_rule, tuple_
 ghost use Rattle.value_operators.specs.Answering.{AsksOnly};
 
 use crate::ends::{give, unsupported};
+use crate::tuples::tuple_operator;
 use py_plain::{plain_binary, plain_unary};
 use rp_base::{BinaryOp, OpEnd, Plain, UnaryOp, Value};
 use std::alloc::Global;
@@ -51,7 +52,9 @@ pub fn binary(
         (_, Value::Own(_)) => Ok(None),
         (_, Value::Proxy(_)) => Ok(None),
         (Value::Plain(a), Value::Plain(b)) => binary_of_plains(alloc, op, a, b),
-        _ => Err(OpEnd::NoMemory),
+        (Value::Plain(_), Value::Tuple(_)) => tuple_operator(alloc, op, left, right),
+        (Value::Tuple(_), Value::Plain(_)) => tuple_operator(alloc, op, left, right),
+        (Value::Tuple(_), Value::Tuple(_)) => tuple_operator(alloc, op, left, right),
     }
 }
 

@@ -1,0 +1,2 @@
+pub mod IntTexts
+pub mod Strip

@@ -1,0 +1,4 @@
+pub mod BindingLemmas
+pub mod CellLemmas
+pub mod PlaceLemmas
+pub mod ReadingLemmas

@@ -1,0 +1,11 @@
+//! Names: where each is, and its reading and binding.
+#![tactic(auto)]
+
+mod ends;
+mod lookup;
+mod names;
+mod place;
+#[cfg(test)]
+mod tests;
+
+pub use names::{bind_name, read_name};
