@@ -1,4 +1,4 @@
-ghost use Rattle.std.specs.Prelude.{◌≡◌, IfOk, IsTrue, List, None, slice_get};
+ghost use Rattle.std.specs.Prelude.{[], ◌≡◌, IfOk, IsTrue, List, None, slice_get};
 ghost use Rattle.py_store.specs.declared.cell.Cell.{Cell};
 ghost use Rattle.eval_frames.specs.Meaning.{IsLight, Means, MeansIn};
 ghost use Rattle.language_rules.specs.AtOnce.{stated};
@@ -53,7 +53,10 @@ fn has_no_handlers(texts: &[Program], env: Env) -> bool
     ensures { IsTrue result → handler_names_of (slice_get texts.now env.text) ≡ [] }
 {
     match texts.get(env.text as usize) {
-        Some(program) => program.handler_names.is_empty(),
+        Some(program) => match program.handler_names.as_slice() {
+            [] => true,
+            _ => false,
+        },
         None => true,
     }
 }

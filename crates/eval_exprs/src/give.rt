@@ -16,7 +16,7 @@ use py_ast::{Comparison, Link};
 use rp_base::{Beyond, BinaryOp, NoMemory, OpEnd, Value};
 use sqlite_items::Items;
 use std::alloc::Global;
-use value_operators::{binary, link, truth, unary};
+use value_operators::{binary, item, link, truth, unary};
 
 /// An expression goes on with the value of a part.
 pub fn give_expression(
@@ -39,7 +39,7 @@ pub fn give_expression(
         ExpressionFrame::BinaryLeft { env, op, right } => give_left(stack, env, op, right, value),
         ExpressionFrame::BinaryRight { op, left } => computed(binary(alloc, op, &left, &value)),
         ExpressionFrame::ItemReceiver { env, key } => give_receiver(stack, env, key, value),
-        ExpressionFrame::ItemKey { .. } => Err(NoMemory),
+        ExpressionFrame::ItemKey { receiver } => computed(item(alloc, &receiver, &value)),
         ExpressionFrame::ChainFirst { env, waiting } => give_first(stack, env, waiting, value),
         ExpressionFrame::ChainRight {
             env,
