@@ -16,8 +16,8 @@ use Rattle.eval_frames.specs.Meaning.{load, meant, rest}
 use Rattle.nested_serve.specs.declared.machine.Halt.{Halt}
 use Rattle.nested_serve.specs.declared.machine.Halt.TheVariants as halt
 use Rattle.nested_serve.specs.declared.machine.Machine.{Machine}
-use Rattle.nested_serve.specs.declared.run.Advance.{Advance}
-use Rattle.nested_serve.specs.declared.run.Advance.TheVariants as advance
+use Rattle.nested_serve.specs.declared.run.Progress.{Progress}
+use Rattle.nested_serve.specs.declared.run.Progress.TheVariants as progress
 
 -- the bytes that it printed
 abbrev pub printed_by : Machine → List ℕ
@@ -61,10 +61,10 @@ abbrev pub ahead : Machine → Next → ℕ → ℕ
 ahead m n units = 20 * units + load m.stack.items n
 
 -- a step leaves the run as it is and comes nearer to its end, or is at the end
-abbrev pub Advances : Machine → Next → ℕ → Advance → Machine → ℕ → Type 0
-Advances before n units (advance.On further) now left =
+abbrev pub Advances : Machine → Next → ℕ → Progress → Machine → ℕ → Type 0
+Advances before n units (progress.On further) now left =
     ((fixed : State) → course fixed before n units ≡ course fixed now further left) × (ahead now further left + 1 ≤ ahead before n units)
-Advances before n units (advance.Halted h) now left = Halts before n units h now left
+Advances before n units (progress.Halted h) now left = Halts before n units h now left
 
 -- ---- the beginning
 

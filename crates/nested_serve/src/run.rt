@@ -11,7 +11,7 @@ use std::alloc::Global;
 
 /// What a step came to.
 #[derive(Drop)]
-pub enum Advance {
+pub enum Progress {
     On(Next),
     Halted(Halt),
 }
@@ -22,27 +22,27 @@ fn advance(
     machine: &mut Machine,
     next: Next,
     fuel: &mut u64,
-) -> Result<Advance, NoMemory>
+) -> Result<Progress, NoMemory>
     ensures run { IfOk result (λ advance. Advances machine.old next fuel.old advance machine.new fuel.new) }
     ensures spent { fuel.new ≤ fuel.old }
 {
     match next {
         Next::Enter(env, number) => {
             if *fuel == 0 {
-                return Ok(Advance::Halted(Halt::OutOfFuel));
+                return Ok(Progress::Halted(Halt::OutOfFuel));
             }
             *fuel -= 1;
-            Ok(Advance::On(enter(alloc, machine, env, number)?))
+            Ok(Progress::On(enter(alloc, machine, env, number)?))
         }
         Next::Give(completion) => match machine.stack.pop() {
-            Some(frame) => Ok(Advance::On(give(alloc, machine, frame, completion)?)),
-            None => Ok(Advance::Halted(Halt::Done(completion))),
+            Some(frame) => Ok(Progress::On(give(alloc, machine, frame, completion)?)),
+            None => Ok(Progress::Halted(Halt::Done(completion))),
         },
         Next::Print(values) => {
             let next = print(alloc, &mut machine.printed, values.as_slice())?;
-            Ok(Advance::On(next))
+            Ok(Progress::On(next))
         }
-        Next::Leave(beyond) => Ok(Advance::Halted(Halt::Beyond(beyond))),
+        Next::Leave(beyond) => Ok(Progress::Halted(Halt::Beyond(beyond))),
         Next::Perform(_) | Next::Ask(_) => Err(NoMemory),
     }
 }
@@ -60,8 +60,8 @@ pub fn run(
     let mut next = first;
     'steps: loop {
         match advance(alloc, machine, next, fuel)? {
-            Advance::On(further) => next = further,
-            Advance::Halted(halt) => return Ok(halt),
+            Progress::On(further) => next = further,
+            Progress::Halted(halt) => return Ok(halt),
         }
     }
 }
