@@ -45,7 +45,7 @@ pub fn begin_expression(
         Expression::Or(operands) => begin_any(alloc, stack, env, operands.as_slice()),
         Expression::And(operands) => begin_all(alloc, stack, env, operands.as_slice()),
         Expression::Compare { first, links } => {
-            begin_chain(alloc, stack, env, *first, links.as_slice())
+            begin_chain(alloc, stack, env, *first, links)
         }
         &Expression::Not(operand) => begin_not(stack, env, operand),
         &Expression::Unary { op, operand } => begin_unary(stack, env, op, operand),

@@ -1,17 +1,18 @@
-ghost use Rattle.std.specs.Prelude.{◌≡◌, IfOk, IsTrue, List, None, slice_get};
+ghost use Rattle.std.specs.Prelude.{◌≡◌, IfOk, List, None, option_copied, slice_get};
 ghost use Rattle.py_store.specs.declared.cell.Cell.{Cell};
 ghost use Rattle.eval_frames.specs.Meaning.{IsLight, Means, MeansIn};
 ghost use Rattle.language_rules.specs.AtOnce.{stated};
 ghost use Rattle.language_rules.specs.Expressions.{builtin_call, call_rule};
 ghost use Rattle.language_rules.specs.Going.{looks};
 ghost use Rattle.language_rules.specs.States.{State};
-ghost use Rattle.language_rules.specs.Texts.{handler_names_of, node_at};
+ghost use Rattle.language_rules.specs.Texts.{handler_names_of, node_at, node_of};
+ghost use Rattle.eval_exprs.specs.Callees.{IsBuiltinAt};
 
 use crate::gather::gather;
 use eval_frames::{Frame, Gathering, Next, node_at};
 use object_operations::Env;
 use py_ast::{Builtin, Expression, Node, Program};
-use rp_base::NoMemory;
+use rp_base::{NoMemory, Text};
 use std::alloc::Global;
 
 /// A call of a builtin function. A call of an object is not built yet, nor one in a text that has names of handlers.
@@ -26,11 +27,9 @@ pub fn begin_call(
     ensures means { IfOk result (λ next. (fixed : State) (cells : List Cell) → MeansIn (stated fixed cells texts.now) stack.new.items next (looks (λ s. call_rule s env callee arguments.now (node_at s env callee))) stack.old.items) }
     ensures light { IfOk result (λ next. IsLight stack.new.items next stack.old.items) }
 {
-    match node_at(texts, env, callee) {
-        Some(Node::Expression(Expression::Builtin(function))) if has_no_handlers(texts, env) => {
-            call_builtin(alloc, stack, env, *function, arguments)
-        }
-        _ => Err(NoMemory),
+    match builtin_at(texts, env, callee) {
+        Some(function) => call_builtin(alloc, stack, env, function, arguments),
+        None => Err(NoMemory),
     }
 }
 
@@ -48,12 +47,28 @@ fn call_builtin(
     gather(alloc, stack, env, Gathering::Builtin(function), arguments)
 }
 
-/// Whether a text has no names of handlers.
-fn has_no_handlers(texts: &[Program], env: Env) -> bool
-    ensures { IsTrue result → handler_names_of (slice_get texts.now env.text) ≡ [] }
+/// The builtin function that a callee names, in a text without names of handlers.
+fn builtin_at(texts: &[Program], env: Env, callee: u32) -> Option<Builtin>
+    ensures { IsBuiltinAt result (node_of (slice_get texts.now env.text) callee) (handler_names_of (slice_get texts.now env.text)) }
 {
-    match texts.get(env.text as usize) {
-        Some(program) => program.handler_names.is_empty(),
-        None => true,
+    match (handler_names(texts, env), node_at(texts, env, callee)) {
+        ([], Some(Node::Expression(Expression::Builtin(function)))) => Some(*function),
+        _ => None,
     }
+}
+
+/// The names after `as` in a text.
+fn handler_names(texts: &[Program], env: Env) -> &[Text]
+    ensures { result.now ≡ handler_names_of (slice_get texts.now env.text) }
+{
+    match text_at(texts, env) {
+        Some(program) => program.handler_names.as_slice(),
+        None => &[],
+    }
+}
+
+fn text_at(texts: &[Program], env: Env) -> Option<&Program>
+    ensures { option_copied result ≡ slice_get texts.now env.text }
+{
+    texts.get(env.text as usize)
 }

@@ -88,12 +88,25 @@ pub fn begin_chain(
     stack: &mut Vec<Frame>,
     env: Env,
     first: u32,
-    links: &[Link],
+    links: &Items<Link>,
 ) -> Result<Next, NoMemory>
     ensures means { IfOk result (λ next. Means stack.new.items next (chain_rule env first links.now) stack.old.items) }
     ensures light { IfOk result (λ next. IsLight stack.new.items next stack.old.items) }
 {
-    let waiting = waiting_links(alloc, links)?;
+    let waiting = waiting_links(alloc, links.as_slice())?;
+    begin_first(stack, env, first, waiting)
+}
+
+/// The first operand of a chain, in front of these links.
+fn begin_first(
+    stack: &mut Vec<Frame>,
+    env: Env,
+    first: u32,
+    waiting: Items<Link>,
+) -> Result<Next, NoMemory>
+    ensures means { IfOk result (λ next. Means stack.new.items next (chain_rule env first (reverse waiting)) stack.old.items) }
+    ensures light { IfOk result (λ next. IsLight stack.new.items next stack.old.items) }
+{
     let frame = ExpressionFrame::ChainFirst { env, waiting };
     enter_over(stack, Frame::Expression(frame), env, first)
 }

@@ -1,0 +1,2 @@
+pub mod AloneRuns
+pub mod Beginning

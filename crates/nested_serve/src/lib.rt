@@ -2,5 +2,10 @@
 #![tactic(auto)]
 
 mod alone;
+mod begin;
+mod enter;
+mod give;
+mod machine;
+mod run;
 
 pub use alone::{AloneEnd, AloneRun, run_alone};
