@@ -3,6 +3,7 @@ ghost use Rattle.rp_base.specs.Values.{plains_of};
 ghost use Rattle.py_plain.specs.Answers.{OrNoMemory};
 ghost use Rattle.language_rules.specs.AtOnce.{ComputesUnlessAsked};
 ghost use Rattle.language_rules.specs.Draining.{drains, items_at_hand};
+ghost use Rattle.language_rules.specs.Kinds.{is_reference};
 ghost use Rattle.language_rules.specs.Ordering.{best_of, best_plain, gives_best};
 ghost use Rattle.builtin_functions.specs.AtHand.{NoneOnlyWhere};
 

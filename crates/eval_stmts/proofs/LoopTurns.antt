@@ -13,7 +13,6 @@ use Rattle.language_rules.specs.Running.{runs}
 use Rattle.language_rules.specs.States.{State}
 use Rattle.eval_frames.proofs.Turns.{turns}
 use Rattle.eval_frames.specs.declared.frame.Decision.TheVariants as decision
-use Rattle.eval_frames.specs.declared.frame.ExpressionFrame.TheVariants as expression_frame
 use Rattle.eval_frames.specs.declared.frame.Frame.{Frame}
 use Rattle.eval_frames.specs.declared.frame.Frame.TheVariants as frame
 use Rattle.eval_frames.specs.declared.frame.StatementFrame.TheVariants as statement_frame
@@ -23,7 +22,7 @@ use Rattle.eval_frames.specs.Meaning.{Means, MeansIn, enters_over, meant, rest, 
 
 -- a test that begins over its frame is a turn that begins
 pub turn_begun : (env : Env) (test body : ℕ) (now stack : List Frame) (result : Result Next NoMemory)
-    → IfOk result (λ n. meant now n ≡ enters_over env test (frame.Expression (expression_frame.Test (decision.While env test body))) stack)
+    → IfOk result (λ n. meant now n ≡ enters_over env test (frame.Test (decision.While env test body)) stack)
     → IfOk result (λ n. (s : State) → MeansIn s now n (while_begins env test body) stack)
 turn_begun env test body now stack (Ok n) h = λ s units printed. turns s env test body (rest (reverse stack)) units printed ∙ ap (λ (t : RuleTree). runs units t s printed) (sym h)
 turn_begun env test body now stack (Err e) h = h

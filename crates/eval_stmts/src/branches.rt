@@ -10,7 +10,7 @@ ghost use Rattle.language_rules.specs.Statements.{otherwise_rule, statement_rule
 
 use crate::suites::{execute_further, execute_suite};
 use eval_frames::{
-    Decision, ExpressionFrame, Frame, Next, StatementFrame, enter_over, node_at, waiting_numbers,
+    Decision, Frame, Next, StatementFrame, enter_over, node_at, waiting_numbers,
 };
 use object_operations::{Completion, Env};
 use py_ast::{Node, Program, Statement};
@@ -31,11 +31,11 @@ pub fn begin_if(
 {
     enter_over(
         stack,
-        Frame::Expression(ExpressionFrame::Test(Decision::If {
+        Frame::Test(Decision::If {
             env,
             then,
             otherwise,
-        })),
+        }),
         env,
         test,
     )

@@ -11,7 +11,7 @@ ghost use Rattle.language_rules.specs.Loops.{next_turn};
 ghost use Rattle.language_rules.specs.States.{State};
 
 use eval_frames::{
-    Decision, ExpressionFrame, Frame, Next, StatementFrame, enter_over, node_at, waiting_numbers,
+    Decision, Frame, Next, StatementFrame, enter_over, node_at, waiting_numbers,
 };
 use object_operations::{Completion, Env};
 use py_ast::{Node, Program, Statement};
@@ -26,7 +26,7 @@ pub fn begin_while(stack: &mut Vec<Frame>, env: Env, test: u32, body: u32) -> Re
 {
     enter_over(
         stack,
-        Frame::Expression(ExpressionFrame::Test(Decision::While { env, test, body })),
+        Frame::Test(Decision::While { env, test, body }),
         env,
         test,
     )

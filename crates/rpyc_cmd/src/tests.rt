@@ -334,6 +334,56 @@ fn refused_runs(rt: HostRuntime) -> Result<(), Fail> {
     Ok(())
 }
 
+/// A script, the words of its command line, the status of its run, and what it writes.
+type Alone = (
+    &'static [u8],
+    &'static [&'static str],
+    Status,
+    &'static str,
+);
+
+const LEAST: &[u8] =
+    b"x = -170141183460469231731687303715884105727 - 1\nprint(x)\nprint(x - 1)\n";
+
+#[test]
+fn runs_of_one_script(rt: HostRuntime) -> Result<(), Fail> {
+    let alloc = rt.alloc();
+    let runs: [Alone; 4] = [
+        (
+            b"print(1)\n",
+            &["run", "a.py", "--fuel", "2"],
+            Status::OutOfFuel,
+            "A 0\nend fuel\nunits 2\n",
+        ),
+        (
+            b"print(1)\n",
+            &["run", "a.py", "--fuel", "3"],
+            Status::Done,
+            "A 2\n1\nend done\nunits 3\n",
+        ),
+        (
+            LEAST,
+            &["run", "a.py"],
+            Status::Beyond,
+            "A 41\n-170141183460469231731687303715884105728\nend beyond Int\nunits 13\n",
+        ),
+        (
+            b"print(1 // 0)\n",
+            &["run", "a.py"],
+            Status::Raised,
+            "A 0\nend raised A ZeroDivisionError('division by zero')\nunits 5\n",
+        ),
+    ];
+    for (script, words, status, text) in runs {
+        let mut devices = make_devices(alloc, script, b"")?;
+        let ended = run(alloc, words, &mut devices)?;
+        assert_eq!(rt; ended, status);
+        assert_eq!(rt; devices.out.taken(), text.as_bytes());
+        assert!(rt; devices.ab.begun().is_none() && devices.ba.begun().is_none());
+    }
+    Ok(())
+}
+
 #[test]
 fn devices_that_fail(rt: HostRuntime) -> Result<(), Fail> {
     let alloc = rt.alloc();
