@@ -16,7 +16,7 @@ use Rattle.py_store.specs.Bindings.{bound_value}
 use Rattle.py_store.specs.declared.cell.Cell.{Cell}
 use Rattle.py_store.specs.declared.cell.Cell.TheVariants as cell
 use Rattle.side_trees.proofs.BindLaw.{bind-bind}
-use Rattle.side_trees.specs.Trees.{Tree, Return, Act, Tell, Stop, Spend, Do, Ask, bind}
+use Rattle.side_trees.specs.Trees.{Return, Act, Tell, Stop, Spend, Do, Ask, bind}
 use Rattle.language_rules.proofs.RunLemmas.{goes_on}
 use Rattle.language_rules.specs.Answers.{gives}
 use Rattle.language_rules.specs.AtOnce.{Comes, at_once, stated}

@@ -1,5 +1,5 @@
 -- The items of a value go to targets, one after another.
-use Rattle.std.proofs.Common.{◌≡◌, ℕ, ◌+◌, ◌<◌, List, [], ◌∷◌, drop, get_or, length, reverse, slice_get, Option, Some, None, Result, Ok, Err, IfOk, OnErr, refl, sym, ◌∙◌, ap, subst}
+use Rattle.std.proofs.Common.{◌≡◌, ℕ, ◌+◌, ◌<◌, List, [], ◌∷◌, drop, get_or, length, reverse, slice_get, Option, Some, Result, Ok, Err, IfOk, OnErr, sym, ◌∙◌, ap, subst}
 use Rattle.std.proofs.lemmas.List.{drop_more}
 use Rattle.rp_base.specs.declared.ends.NoMemory.{NoMemory}
 use Rattle.rp_base.specs.declared.ends.OpEnd.{OpEnd}
@@ -14,7 +14,7 @@ use Rattle.side_trees.proofs.BindLaw.{bind-bind}
 use Rattle.side_trees.specs.Trees.{Return, bind}
 use Rattle.language_rules.proofs.RunLemmas.{goes_on}
 use Rattle.language_rules.specs.AtOnce.{Comes, at_once, stated}
-use Rattle.language_rules.specs.Codes.{Completion, Env, Raises}
+use Rattle.language_rules.specs.Codes.{Env, Raises}
 use Rattle.language_rules.specs.Draining.{unpacks}
 use Rattle.language_rules.specs.Going.{RuleTree, done, on_value}
 use Rattle.language_rules.specs.Names.{binds_name}

@@ -1,4 +1,4 @@
-use Rattle.std.proofs.Common.{◌≡◌, ◌+◌, ◌<◌, ◌∷◌, List, drop, get_or, length, subst, sym}
+use Rattle.std.proofs.Common.{◌≡◌, ◌+◌, ◌<◌, ◌∷◌, drop, get_or, length, subst, sym}
 use Rattle.std.proofs.lemmas.List.{drop_more}
 use Rattle.rp_base.specs.declared.value.Value.{Value}
 use Rattle.eval_stmts.proofs.Unpacking.{item_at, one_assigned, one_left}
