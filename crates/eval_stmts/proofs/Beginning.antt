@@ -13,7 +13,7 @@ use Rattle.language_rules.specs.States.{State}
 use Rattle.language_rules.specs.Statements.{statement_rule}
 use Rattle.eval_frames.specs.declared.frame.Frame.{Frame}
 use Rattle.eval_frames.specs.declared.next.Next.{Next}
-use Rattle.eval_frames.specs.Meaning.{Means, MeansIn, meant, rest}
+use Rattle.eval_frames.specs.Meaning.{Means, MeansIn, rest}
 
 pub begun_in : (env : Env) (given form : Statement) (cells : List Cell) (texts : List Program) (now before : List Frame) (result : Result Next NoMemory)
     → given ≡ form → IfOk result (λ n. (s : State) → MeansIn s now n (statement_rule env form) before)

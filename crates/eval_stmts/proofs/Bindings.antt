@@ -1,5 +1,5 @@
 -- What comes of the binding of a name, in every run.
-use Rattle.std.proofs.Common.{◌≡◌, ℕ, List, Result, Ok, Err, IfOk, OnErr, sym, ◌∙◌, ap, subst}
+use Rattle.std.proofs.Common.{◌≡◌, List, Result, Ok, Err, IfOk, OnErr, sym, ◌∙◌, ap, subst}
 use Rattle.rp_base.specs.declared.ends.NoMemory.{NoMemory}
 use Rattle.rp_base.specs.declared.ends.OpEnd.{OpEnd}
 use Rattle.rp_base.specs.declared.ends.OpEnd.TheVariants as op_end

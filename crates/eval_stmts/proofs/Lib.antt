@@ -3,3 +3,4 @@ pub mod Bindings
 pub mod LoopTurns
 pub mod NameValues
 pub mod PlainOperands
+pub mod Unpacking

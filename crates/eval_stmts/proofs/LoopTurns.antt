@@ -1,5 +1,5 @@
 -- The turns of a `while` on a stack.
-use Rattle.std.proofs.Common.{◌≡◌, ℕ, List, [], ◌∷◌, ◌++◌, reverse, Result, Ok, Err, IfOk, refl, sym, ◌∙◌, ap}
+use Rattle.std.proofs.Common.{◌≡◌, ℕ, List, [], ◌∷◌, ◌++◌, reverse, Result, Ok, Err, IfOk, sym, ◌∙◌, ap}
 use Rattle.std.proofs.lemmas.List.{reverse-append}
 use mathlib.Core.Path.{fun_ext}
 use Rattle.rp_base.specs.declared.ends.NoMemory.{NoMemory}

@@ -16,7 +16,7 @@ use Rattle.py_store.specs.Bindings.{bound_value}
 use Rattle.py_store.specs.declared.cell.Cell.{Cell}
 use Rattle.py_store.specs.declared.cell.Cell.TheVariants as cell
 use Rattle.side_trees.proofs.BindLaw.{bind-bind}
-use Rattle.side_trees.specs.Trees.{Tree, Return, Act, Tell, Stop, Spend, Do, Ask, bind}
+use Rattle.side_trees.specs.Trees.{Return, Act, Tell, Stop, Spend, Do, Ask, bind}
 use Rattle.language_rules.proofs.RunLemmas.{goes_on}
 use Rattle.language_rules.specs.Answers.{gives}
 use Rattle.language_rules.specs.AtOnce.{Comes, at_once, stated}
@@ -76,12 +76,12 @@ name_given s env name f k v h units printed =
 -- ---- the name has no value
 
 -- what an end that was reached at once goes on to
-abbrev onward : (Completion → RuleTree) → Option (Result Completion Beyond × State) → Option (Result Completion Beyond × State)
+abbrev pub onward : (Completion → RuleTree) → Option (Result Completion Beyond × State) → Option (Result Completion Beyond × State)
 onward k (Some (Ok a, now)) = at_once (k a) now
 onward k (Some (Err x, now)) = Some (Err x, now)
 onward k None = None
 
-at-once-on : (t : RuleTree) (k : Completion → RuleTree) (s : State) (o : Option (Result Completion Beyond × State)) → at_once t s ≡ o → at_once (bind t k) s ≡ onward k o
+pub at-once-on : (t : RuleTree) (k : Completion → RuleTree) (s : State) (o : Option (Result Completion Beyond × State)) → at_once t s ≡ o → at_once (bind t k) s ≡ onward k o
 at-once-on (Return b) k s o h = ap (onward k) h
 at-once-on (Act g f) k s o h = at-once-on (f s) k (g s) o h
 at-once-on (Tell d t) k s o h = ap (onward k) h

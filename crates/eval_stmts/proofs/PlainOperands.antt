@@ -1,5 +1,5 @@
 -- What an augmented assignment makes of two plain values, in every run.
-use Rattle.std.proofs.Common.{◌≡◌, ℕ, List, None, Result, Ok, Err, IfOk, reverse, refl, sym, ◌∙◌, ap, subst}
+use Rattle.std.proofs.Common.{◌≡◌, List, None, Result, Ok, Err, IfOk, reverse, refl, sym, ◌∙◌, ap, subst}
 use Rattle.rp_base.specs.declared.ends.NoMemory.{NoMemory}
 use Rattle.rp_base.specs.declared.operators.BinaryOp.{BinaryOp}
 use Rattle.rp_base.specs.declared.operators.BinaryOp.TheVariants as op
@@ -21,7 +21,7 @@ use Rattle.language_rules.specs.Running.{runs}
 use Rattle.language_rules.specs.States.{State}
 use Rattle.eval_frames.specs.declared.frame.Frame.{Frame}
 use Rattle.eval_frames.specs.declared.next.Next.{Next}
-use Rattle.eval_frames.specs.Meaning.{Means, RunsAs, meant, rest}
+use Rattle.eval_frames.specs.Meaning.{Means, RunsAs, rest}
 use Rattle.eval_stmts.specs.Changing.{MeansOver}
 
 -- two plain values meet as in the binary operator

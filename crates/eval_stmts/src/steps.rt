@@ -66,8 +66,9 @@ pub fn begin_statement(
     }
 }
 
-/// A statement goes on with the value that it waited for. That the value goes to an attribute or an item, or to targets
-/// with a comma, and that an augmented assignment has an operand that is no plain value, is not built yet.
+/// A statement goes on with the value that it waited for. These are not built yet: that a value goes to an attribute or
+/// an item, that the items of a value are not at hand, and that an augmented assignment has an operand that is no plain
+/// value.
 pub fn give_statement(
     alloc: Global,
     stack: &mut Vec<Frame>,
