@@ -1,2 +1,3 @@
 pub mod IntTexts
+pub mod NoItems
 pub mod Strip

@@ -2,6 +2,7 @@ ghost use Rattle.std.specs.Prelude.{◌≡◌, ◌+ℤ◌, if◌then◌else◌, 
 ghost use Rattle.py_ints.specs.IntTexts.{fits};
 ghost use Rattle.language_rules.specs.AtOnce.{ComputesUnlessAsked};
 ghost use Rattle.language_rules.specs.Draining.{drains, items_at_hand};
+ghost use Rattle.language_rules.specs.Kinds.{is_reference};
 ghost use Rattle.language_rules.specs.Ordering.{adds_up, all_ints, gives_sum};
 ghost use Rattle.language_rules.specs.TextFunctions.{as_int};
 ghost use Rattle.builtin_functions.specs.AtHand.{NoneOnlyWhere};

@@ -44,9 +44,7 @@ pub fn begin_expression(
         } => begin_conditional(stack, env, then, test, otherwise),
         Expression::Or(operands) => begin_any(alloc, stack, env, operands.as_slice()),
         Expression::And(operands) => begin_all(alloc, stack, env, operands.as_slice()),
-        Expression::Compare { first, links } => {
-            begin_chain(alloc, stack, env, *first, links)
-        }
+        Expression::Compare { first, links } => { begin_chain(alloc, stack, env, *first, links) }
         &Expression::Not(operand) => begin_not(stack, env, operand),
         &Expression::Unary { op, operand } => begin_unary(stack, env, op, operand),
         &Expression::Binary { op, left, right } => begin_binary(stack, env, op, left, right),
@@ -114,7 +112,12 @@ fn begin_unary(
     ensures means { IfOk result (λ next. Means stack.new.items next (expression_rule env (expression.Unary op operand)) stack.old.items) }
     ensures light { IfOk result (λ next. IsLight stack.new.items next stack.old.items) }
 {
-    enter_over(stack, Frame::Expression(ExpressionFrame::Unary(op)), env, operand)
+    enter_over(
+        stack,
+        Frame::Expression(ExpressionFrame::Unary(op)),
+        env,
+        operand,
+    )
 }
 
 fn begin_binary(
@@ -131,12 +134,7 @@ fn begin_binary(
     enter_over(stack, Frame::Expression(frame), env, left)
 }
 
-fn begin_item(
-    stack: &mut Vec<Frame>,
-    env: Env,
-    receiver: u32,
-    key: u32,
-) -> Result<Next, NoMemory>
+fn begin_item(stack: &mut Vec<Frame>, env: Env, receiver: u32, key: u32) -> Result<Next, NoMemory>
     ensures means { IfOk result (λ next. Means stack.new.items next (expression_rule env (expression.Item receiver key)) stack.old.items) }
     ensures light { IfOk result (λ next. IsLight stack.new.items next stack.old.items) }
 {

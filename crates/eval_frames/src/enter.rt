@@ -7,7 +7,12 @@ use object_operations::Env;
 use rp_base::NoMemory;
 
 /// The node of this number begins, and its end goes to this frame.
-pub fn enter_over(stack: &mut Vec<Frame>, frame: Frame, env: Env, number: u32) -> Result<Next, NoMemory>
+pub fn enter_over(
+    stack: &mut Vec<Frame>,
+    frame: Frame,
+    env: Env,
+    number: u32,
+) -> Result<Next, NoMemory>
     ensures means { IfOk result (λ next. meant stack.new.items next ≡ enters_over env number frame stack.old.items) }
     ensures light { IfOk result (λ next. IsLight stack.new.items next stack.old.items) }
 {

@@ -9,9 +9,7 @@ ghost use Rattle.language_rules.specs.States.{State};
 ghost use Rattle.language_rules.specs.Statements.{otherwise_rule, statement_rule};
 
 use crate::suites::{execute_further, execute_suite};
-use eval_frames::{
-    Decision, Frame, Next, StatementFrame, enter_over, node_at, waiting_numbers,
-};
+use eval_frames::{Decision, Frame, Next, StatementFrame, enter_over, node_at, waiting_numbers};
 use object_operations::{Completion, Env};
 use py_ast::{Node, Program, Statement};
 use rp_base::{Beyond, NoMemory, Plain, Value};

@@ -10,9 +10,7 @@ ghost use Rattle.language_rules.specs.Going.{executes_all};
 ghost use Rattle.language_rules.specs.Loops.{next_turn};
 ghost use Rattle.language_rules.specs.States.{State};
 
-use eval_frames::{
-    Decision, Frame, Next, StatementFrame, enter_over, node_at, waiting_numbers,
-};
+use eval_frames::{Decision, Frame, Next, StatementFrame, enter_over, node_at, waiting_numbers};
 use object_operations::{Completion, Env};
 use py_ast::{Node, Program, Statement};
 use rp_base::{Beyond, NoMemory, Plain, Value};

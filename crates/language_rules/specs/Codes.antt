@@ -5,7 +5,6 @@ use Rattle.rp_base.specs.declared.exceptions.Raised.{Raised}
 use Rattle.rp_base.specs.declared.operators.CmpOp.{CmpOp}
 use Rattle.rp_base.specs.declared.value.Value.{Value}
 use Rattle.object_operations.specs.declared.operation.Operation.{Operation}
-
 -- where code runs, and how a piece of code ends
 pub use Rattle.object_operations.specs.declared.ending.Env.{Env}
 pub use Rattle.object_operations.specs.declared.ending.Completion.{Completion}
