@@ -1,4 +1,2 @@
 pub mod Outcomes
-pub mod RunWords
-pub mod WordTests
 pub mod WordsLaws
