@@ -1,0 +1,3 @@
+pub mod AloneRuns
+pub mod Beginning
+pub mod Steps

@@ -1,0 +1,66 @@
+ghost use Rattle.std.specs.Prelude.{◌≡◌, ◌≤◌, string_bytes};
+ghost use Rattle.py_ast.specs.declared.program.Program.{Program};
+ghost use Rattle.side_trees.specs.SharedRun.{A};
+ghost use Rattle.language_rules.specs.OneInterpreter.{EndsDone, end_of_script};
+ghost use Rattle.eval_frames.specs.declared.next.Next.{Next};
+ghost use Rattle.nested_serve.specs.declared.machine.Machine.{Machine};
+ghost use Rattle.nested_serve.specs.Alone.{IsEndOf, IsRunAlone, end_of_run};
+ghost use Rattle.nested_serve.specs.Machines.{Begins, Halts, printed_by};
+
+use crate::machine::Halt;
+use object_operations::Completion;
+use rp_base::{Beyond, Raised, Text};
+
+/// How a script alone ended.
+#[derive(Drop)]
+pub enum AloneEnd {
+    Done,
+    Raised(Raised),
+    OutOfFuel,
+    Beyond(Beyond),
+}
+
+/// A run of a script alone: its end, what it printed, and the units that it spent.
+#[derive(Drop)]
+pub struct AloneRun {
+    pub end: AloneEnd,
+    pub printed: Text,
+    pub units: u64,
+}
+
+/// What the run of a machine that began a script came to, with the units that are left of those that it was given.
+pub fn alone_run(halt: Halt, printed: String, fuel: u64, left: u64) -> AloneRun
+    requires { left ≤ fuel }
+    ensures { (program : Program) (start m : Machine) (n : Next) → Begins program start n → Halts start n fuel halt m left → printed_by m ≡ string_bytes printed → IsRunAlone program fuel result }
+{
+    AloneRun {
+        end: end_of(halt),
+        printed: Text::from_string(printed),
+        units: fuel - left,
+    }
+}
+
+/// The end of a script, as a report tells it.
+fn end_of(halt: Halt) -> AloneEnd
+    ensures { IsEndOf halt result }
+{
+    match halt {
+        Halt::Done(completion) => end_of_text(completion),
+        Halt::OutOfFuel => AloneEnd::OutOfFuel,
+        Halt::Beyond(beyond) => AloneEnd::Beyond(beyond),
+    }
+}
+
+/// What a text gives is not kept.
+fn end_of_text(completion: Completion) -> AloneEnd
+    ensures { end_of_run result ≡ end_of_script A completion EndsDone }
+{
+    match completion {
+        Completion::Raises(raised) => AloneEnd::Raised(raised),
+        Completion::Gives(_)
+        | Completion::Returns(_)
+        | Completion::Breaks
+        | Completion::Continues
+        | Completion::Drained(_) => AloneEnd::Done,
+    }
+}

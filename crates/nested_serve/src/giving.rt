@@ -1,0 +1,164 @@
+ghost use Rattle.std.specs.Prelude.{IfOk, List};
+ghost use Rattle.py_store.specs.declared.cell.Cell.{Cell};
+ghost use Rattle.eval_frames.specs.Meaning.{IsLight, Means, MeansIn, decides, resume, through_expression, through_statement};
+ghost use Rattle.eval_stmts.specs.Changing.{MeansOver};
+ghost use Rattle.language_rules.specs.AtOnce.{stated};
+ghost use Rattle.language_rules.specs.States.{State};
+ghost use Rattle.language_rules.specs.Truth.{on_truth};
+ghost use Rattle.language_rules.specs.Going.{on_value};
+ghost use Rattle.nested_serve.specs.Machines.{IsValueOf};
+
+use eval_exprs::{
+    decide_and, decide_conditional, decide_link, decide_not, decide_or, give_expression,
+};
+use eval_frames::{Decision, ExpressionFrame, Frame, Next, StatementFrame};
+use eval_stmts::{decide_if, decide_while, end_turn, give_statement};
+use object_operations::Completion;
+use py_ast::Program;
+use py_store::Store;
+use rp_base::{NoMemory, OpEnd, Value};
+use std::alloc::Global;
+use value_operators::truth;
+
+/// What waits goes on with the end that it waits for. Answers of objects are not built yet.
+pub fn give(
+    alloc: Global,
+    stack: &mut Vec<Frame>,
+    store: &mut Store,
+    texts: &[Program],
+    frame: Frame,
+    completion: Completion,
+) -> Result<Next, NoMemory>
+    ensures means { IfOk result (λ next. (fixed : State) → MeansOver (stated fixed store.old.cells texts.now) (stated fixed store.new.cells texts.now) stack.new.items next (resume frame completion) stack.old.items) }
+    ensures light { IfOk result (λ next. IsLight stack.new.items next stack.old.items) }
+{
+    match frame {
+        Frame::While { env, test, body } => end_turn(stack, env, test, body, completion),
+        Frame::Truth { .. } => Err(NoMemory),
+        Frame::Expression(frame) => give_to_expression(alloc, stack, frame, completion),
+        Frame::Statement(frame) => {
+            give_to_statement(alloc, stack, store, texts, frame, completion)
+        }
+        Frame::Test(decision) => give_to_test(alloc, stack, texts, decision, completion),
+    }
+}
+
+fn give_to_expression(
+    alloc: Global,
+    stack: &mut Vec<Frame>,
+    frame: ExpressionFrame,
+    completion: Completion,
+) -> Result<Next, NoMemory>
+    ensures means { IfOk result (λ next. Means stack.new.items next (on_value (through_expression frame) completion) stack.old.items) }
+    ensures light { IfOk result (λ next. IsLight stack.new.items next stack.old.items) }
+{
+    match value_of(completion) {
+        Ok(value) => give_expression(alloc, stack, frame, value),
+        Err(end) => Ok(Next::Give(end)),
+    }
+}
+
+fn give_to_statement(
+    alloc: Global,
+    stack: &mut Vec<Frame>,
+    store: &mut Store,
+    texts: &[Program],
+    frame: StatementFrame,
+    completion: Completion,
+) -> Result<Next, NoMemory>
+    ensures means { IfOk result (λ next. (fixed : State) → MeansOver (stated fixed store.old.cells texts.now) (stated fixed store.new.cells texts.now) stack.new.items next (on_value (through_statement frame) completion) stack.old.items) }
+    ensures light { IfOk result (λ next. IsLight stack.new.items next stack.old.items) }
+{
+    match value_of(completion) {
+        Ok(value) => give_statement(alloc, stack, store, texts, frame, value),
+        Err(end) => Ok(Next::Give(end)),
+    }
+}
+
+fn give_to_test(
+    alloc: Global,
+    stack: &mut Vec<Frame>,
+    texts: &[Program],
+    decision: Decision,
+    completion: Completion,
+) -> Result<Next, NoMemory>
+    ensures means { IfOk result (λ next. (fixed : State) (cells : List Cell) → MeansIn (stated fixed cells texts.now) stack.new.items next (on_value (λ v. on_truth v (decides decision v)) completion) stack.old.items) }
+    ensures light { IfOk result (λ next. IsLight stack.new.items next stack.old.items) }
+{
+    match value_of(completion) {
+        Ok(value) => test(alloc, stack, texts, decision, value),
+        Err(end) => Ok(Next::Give(end)),
+    }
+}
+
+/// The value, or an end that passes what waits for a value.
+fn value_of(completion: Completion) -> Result<Value, Completion>
+    ensures { IsValueOf completion result }
+{
+    match completion {
+        Completion::Gives(value) => Ok(value),
+        Completion::Raises(raised) => Err(Completion::Raises(raised)),
+        Completion::Returns(value) => Err(Completion::Returns(value)),
+        Completion::Breaks => Err(Completion::Breaks),
+        Completion::Continues => Err(Completion::Continues),
+        Completion::Drained(values) => Err(Completion::Drained(values)),
+    }
+}
+
+/// The truth of a value decides.
+fn test(
+    alloc: Global,
+    stack: &mut Vec<Frame>,
+    texts: &[Program],
+    decision: Decision,
+    value: Value,
+) -> Result<Next, NoMemory>
+    ensures means { IfOk result (λ next. (fixed : State) (cells : List Cell) → MeansIn (stated fixed cells texts.now) stack.new.items next (on_truth value (decides decision value)) stack.old.items) }
+    ensures light { IfOk result (λ next. IsLight stack.new.items next stack.old.items) }
+{
+    match truth(&value) {
+        Ok(Some(holds)) => decide(alloc, stack, texts, decision, value, holds),
+        Ok(None) => Err(NoMemory),
+        Err(OpEnd::Raise(raised)) => Ok(Next::Give(Completion::Raises(raised))),
+        Err(OpEnd::Beyond(beyond)) => Ok(Next::Leave(beyond)),
+        Err(OpEnd::NoMemory) => Err(NoMemory),
+    }
+}
+
+/// What is done by the truth of a value.
+fn decide(
+    alloc: Global,
+    stack: &mut Vec<Frame>,
+    texts: &[Program],
+    decision: Decision,
+    value: Value,
+    holds: bool,
+) -> Result<Next, NoMemory>
+    ensures means { IfOk result (λ next. (fixed : State) (cells : List Cell) → MeansIn (stated fixed cells texts.now) stack.new.items next (decides decision value holds) stack.old.items) }
+    ensures light { IfOk result (λ next. IsLight stack.new.items next stack.old.items) }
+{
+    match decision {
+        Decision::Or { env, next, waiting } => decide_or(stack, env, next, waiting, value, holds),
+        Decision::And { env, next, waiting } => decide_and(stack, env, next, waiting, value, holds),
+        Decision::Not => Ok(decide_not(holds)),
+        Decision::Conditional {
+            env,
+            then,
+            otherwise,
+        } => Ok(decide_conditional(env, then, otherwise, holds)),
+        Decision::Link {
+            env,
+            left,
+            next,
+            waiting,
+        } => decide_link(stack, env, left, next, waiting, value, holds),
+        Decision::If {
+            env,
+            then,
+            otherwise,
+        } => decide_if(alloc, stack, texts, env, then, otherwise, holds),
+        Decision::While { env, test, body } => {
+            decide_while(alloc, stack, texts, env, test, body, holds)
+        }
+    }
+}

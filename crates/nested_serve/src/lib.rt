@@ -1,0 +1,16 @@
+//! A side that runs by itself: its machine, the steps, and how far it gets within its units.
+#![tactic(auto)]
+
+mod alone;
+mod entering;
+mod giving;
+mod laws;
+mod machine;
+mod running;
+
+pub use alone::{AloneEnd, AloneRun, alone_run};
+pub use entering::enter;
+pub use giving::give;
+pub use laws::a_script_begins_with_its_statements;
+pub use machine::{Halt, Machine};
+pub use running::run;

@@ -1,0 +1,146 @@
+ghost use Rattle.std.specs.Prelude.{◌≤◌, ℕ, IfOk};
+ghost use Rattle.eval_frames.specs.declared.next.Next.TheVariants as next;
+ghost use Rattle.eval_frames.specs.Meaning.{IsLight, resume};
+ghost use Rattle.language_rules.specs.Nodes.{node_rule};
+ghost use Rattle.nested_serve.specs.Machines.{Advances, GoesOn, Halts};
+
+use crate::entering::enter;
+use crate::giving::give;
+use crate::machine::{Halt, Machine};
+use eval_frames::{Frame, Next};
+use object_operations::{Completion, Env, Operation};
+use print_output::print;
+use rp_base::{NoMemory, Value};
+use sqlite_items::Items;
+use std::alloc::Global;
+
+/// What a step came to.
+#[derive(Drop)]
+pub enum Progress {
+    On(Next),
+    Halted(Halt),
+}
+
+/// One step, for which a unit may be due. Operations on objects are not built yet.
+fn advance(
+    alloc: Global,
+    machine: &mut Machine,
+    next: Next,
+    fuel: &mut u64,
+) -> Result<Progress, NoMemory>
+    ensures run { IfOk result (λ advance. Advances machine.old next fuel.old advance machine.new fuel.new) }
+    ensures spent { fuel.new ≤ fuel.old }
+{
+    match next {
+        Next::Enter(env, number) => advance_into(alloc, machine, env, number, fuel),
+        Next::Give(completion) => advance_with(alloc, machine, completion),
+        Next::Print(values) => advance_printing(alloc, machine, values),
+        Next::Leave(beyond) => Ok(Progress::Halted(Halt::Beyond(beyond))),
+        Next::Perform(operation) => operate(operation),
+        Next::Ask(operation) => operate(operation),
+    }
+}
+
+/// Operations on objects are not built yet.
+fn operate(_operation: Operation) -> Result<Progress, NoMemory>
+    ensures { IfOk result (λ advance. ⊥) }
+{
+    Err(NoMemory)
+}
+
+/// A node begins, where a unit is left.
+fn advance_into(
+    alloc: Global,
+    machine: &mut Machine,
+    env: Env,
+    number: u32,
+    fuel: &mut u64,
+) -> Result<Progress, NoMemory>
+    ensures run { IfOk result (λ advance. Advances machine.old (next.Enter env number) fuel.old advance machine.new fuel.new) }
+    ensures spent { fuel.new ≤ fuel.old }
+{
+    match fuel.checked_sub(1) {
+        Some(left) => {
+            *fuel = left;
+            Ok(Progress::On(begin_node(alloc, machine, env, number)?))
+        }
+        None => Ok(Progress::Halted(Halt::OutOfFuel)),
+    }
+}
+
+/// An end goes to what waits, or is the last.
+fn advance_with(
+    alloc: Global,
+    machine: &mut Machine,
+    completion: Completion,
+) -> Result<Progress, NoMemory>
+    ensures { IfOk result (λ advance. (units : ℕ) → Advances machine.old (next.Give completion) units advance machine.new units) }
+{
+    match machine.stack.pop() {
+        Some(frame) => Ok(Progress::On(give_frame(alloc, machine, frame, completion)?)),
+        None => Ok(Progress::Halted(Halt::Done(completion))),
+    }
+}
+
+fn advance_printing(
+    alloc: Global,
+    machine: &mut Machine,
+    values: Items<Value>,
+) -> Result<Progress, NoMemory>
+    ensures { IfOk result (λ advance. (units : ℕ) → Advances machine.old (next.Print values) units advance machine.new units) }
+{
+    let next = print(alloc, &mut machine.printed, values.as_slice())?;
+    Ok(Progress::On(next))
+}
+
+fn begin_node(alloc: Global, machine: &mut Machine, env: Env, number: u32) -> Result<Next, NoMemory>
+    ensures means { IfOk result (λ next. GoesOn machine.old (node_rule env number) machine.new next) }
+    ensures light { IfOk result (λ next. IsLight machine.new.stack.items next machine.old.stack.items) }
+{
+    enter(
+        alloc,
+        &mut machine.stack,
+        &machine.store,
+        &machine.texts,
+        env,
+        number,
+    )
+}
+
+fn give_frame(
+    alloc: Global,
+    machine: &mut Machine,
+    frame: Frame,
+    completion: Completion,
+) -> Result<Next, NoMemory>
+    ensures means { IfOk result (λ next. GoesOn machine.old (resume frame completion) machine.new next) }
+    ensures light { IfOk result (λ next. IsLight machine.new.stack.items next machine.old.stack.items) }
+{
+    give(
+        alloc,
+        &mut machine.stack,
+        &mut machine.store,
+        &machine.texts,
+        frame,
+        completion,
+    )
+}
+
+/// Goes on until the side's own run ends.
+pub fn run(
+    alloc: Global,
+    machine: &mut Machine,
+    first: Next,
+    fuel: &mut u64,
+) -> Result<Halt, NoMemory>
+    ensures run { IfOk result (λ halt. Halts machine.old first fuel.old halt machine.new fuel.new) }
+    ensures spent { fuel.new ≤ fuel.old }
+{
+    let mut next = first;
+    'steps: loop {
+        match advance(alloc, machine, next, fuel)? {
+            Progress::On(further) => next = further,
+            Progress::Halted(halt) => return Ok(halt),
+        }
+    }
+}
