@@ -1,5 +1,6 @@
 -- The forms that are built at this stage, and the first line of a script that has another.
-use Rattle.std.specs.Prelude.{◌≡◌, ◌≤◌, ℕ, Bool, true, false, IsTrue, All, Option, Some, None, slice_get}
+use Rattle.std.specs.Prelude.{◌≡◌, ◌≤◌, ℕ, Bool, true, false, IsTrue, All, List, [], ◌∷◌, Option, Some, None, slice_get, if◌then◌else◌}
+use Rattle.std.specs.Str.{bytes_eq}
 use Rattle.py_ast.specs.declared.builtin.Builtin.{Builtin}
 use Rattle.py_ast.specs.declared.builtin.Builtin.TheVariants as builtin
 use Rattle.py_ast.specs.declared.expression.Expression.{Expression}
@@ -32,10 +33,20 @@ is_built_function builtin.Max = true
 is_built_function builtin.Sum = true
 is_built_function builtin.Sorted = false
 
--- what a call calls is the name of such a function
+-- what a call calls: of the builtin functions one of those
 abbrev pub is_built_callee : Option Node → Bool
 is_built_callee (Some (node.Expression (expression.Builtin function))) = is_built_function function
-is_built_callee _ = false
+is_built_callee _ = true
+
+-- whether a word is among the names that handlers give
+abbrev pub is_handler : List ℕ → List (List ℕ) → Bool
+is_handler word [] = false
+is_handler word (name ∷ names) = if bytes_eq word name then true else is_handler word names
+
+-- the receiver of an attribute is the name of a handler
+abbrev pub names_handler : Program → Option Node → Bool
+names_handler p (Some (node.Expression (expression.Name word))) = is_handler word p.handler_names
+names_handler p _ = false
 
 abbrev pub is_built_expression : Program → Expression → Bool
 is_built_expression p (expression.Name word) = true
@@ -44,7 +55,7 @@ is_built_expression p (expression.Constant value) = true
 is_built_expression p (expression.Tuple items) = true
 is_built_expression p (expression.List items) = false
 is_built_expression p (expression.Dict items) = false
-is_built_expression p (expression.Lambda function) = false
+is_built_expression p (expression.Lambda function) = true
 is_built_expression p (expression.Conditional first test last) = true
 is_built_expression p (expression.Or operands) = true
 is_built_expression p (expression.And operands) = true
@@ -52,7 +63,7 @@ is_built_expression p (expression.Compare first links) = true
 is_built_expression p (expression.Not operand) = true
 is_built_expression p (expression.Unary op operand) = true
 is_built_expression p (expression.Binary op left right) = true
-is_built_expression p (expression.Attribute receiver word) = false
+is_built_expression p (expression.Attribute receiver word) = names_handler p (slice_get p.nodes receiver)
 is_built_expression p (expression.Item receiver key) = true
 is_built_expression p (expression.Call callee arguments) = is_built_callee (slice_get p.nodes callee)
 
@@ -69,12 +80,21 @@ is_built_statement (statement.Augmented target op value) = true
 is_built_statement statement.Pass = true
 is_built_statement statement.Break = true
 is_built_statement statement.Continue = true
+is_built_statement (statement.Return value) = true
+is_built_statement statement.RaiseAgain = true
+is_built_statement (statement.RaiseName name) = true
+is_built_statement (statement.RaiseCall name arguments) = true
+is_built_statement (statement.Global names) = true
+is_built_statement (statement.Nonlocal names) = true
 is_built_statement (statement.If test body otherwise) = true
 is_built_statement (statement.While test body) = true
+is_built_statement (statement.Try body handlers last) = true
+is_built_statement (statement.Except kinds name body) = true
+is_built_statement (statement.Def function) = true
 is_built_statement (statement.Suite statements) = true
 is_built_statement _ = false
 
--- whether a node is of a built form; of a call its callee's node tells
+-- whether a node is of a built form; of a call its callee's node tells, and of an attribute that of its receiver
 abbrev pub is_built : Program → Node → Bool
 is_built p (node.Expression e) = is_built_expression p e
 is_built p (node.Target t) = is_built_target t

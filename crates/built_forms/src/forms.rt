@@ -1,8 +1,9 @@
 ghost use Rattle.std.specs.Prelude.{◌≡◌, ◌<◌, length, slice_get};
-ghost use Rattle.built_forms.specs.BuiltForms.{FindsUnbuilt, is_built, is_built_callee, is_built_expression, is_built_function, is_built_statement, is_built_target, line_of};
+ghost use Rattle.built_forms.specs.BuiltForms.{FindsUnbuilt, is_built, is_built_callee, is_built_expression, is_built_function, is_built_statement, is_built_target, is_handler, line_of, names_handler};
 ghost use Rattle.built_forms.specs.Finding.{lesser, with_node};
 
 use py_ast::{Builtin, Expression, Node, Program, Statement, Target};
+use rp_base::Text;
 
 /// The least line of a node that is of no built form; none exactly where all nodes are of built forms.
 pub fn first_unbuilt(program: &Program) -> Option<u32>
@@ -68,12 +69,11 @@ fn is_built_expression(program: &Program, expression: &Expression) -> bool
         | Expression::Not(_)
         | Expression::Unary { .. }
         | Expression::Binary { .. }
-        | Expression::Item { .. } => true,
+        | Expression::Item { .. }
+        | Expression::Lambda(_) => true,
         Expression::Call { callee, .. } => is_built_callee(program, *callee),
-        Expression::List(_)
-        | Expression::Dict(_)
-        | Expression::Lambda(_)
-        | Expression::Attribute { .. } => false,
+        Expression::Attribute { receiver, .. } => names_handler(program, *receiver),
+        Expression::List(_) | Expression::Dict(_) => false,
     }
 }
 
@@ -82,8 +82,31 @@ fn is_built_callee(program: &Program, callee: u32) -> bool
 {
     match program.nodes.get(callee as usize) {
         Some(Node::Expression(Expression::Builtin(function))) => is_built_function(*function),
+        _ => true,
+    }
+}
+
+/// Whether the node of this number is the name of a handler.
+fn names_handler(program: &Program, receiver: u32) -> bool
+    ensures { result ≡ names_handler program.now (slice_get program.now.nodes receiver) }
+{
+    match program.nodes.get(receiver as usize) {
+        Some(Node::Expression(Expression::Name(name))) => {
+            is_handler(name.as_str(), program.handler_names.as_slice())
+        }
         _ => false,
     }
+}
+
+fn is_handler(word: &str, names: &[Text]) -> bool
+    ensures { result ≡ is_handler word.now names.now }
+{
+    for name in names {
+        if word == name.as_str() {
+            return true;
+        }
+    }
+    false
 }
 
 fn is_built_function(function: Builtin) -> bool
@@ -126,9 +149,18 @@ fn is_built_statement(statement: &Statement) -> bool
         | Statement::Pass
         | Statement::Break
         | Statement::Continue
+        | Statement::Return(_)
+        | Statement::RaiseAgain
+        | Statement::RaiseName(_)
+        | Statement::RaiseCall { .. }
+        | Statement::Global(_)
+        | Statement::Nonlocal(_)
         | Statement::If { .. }
         | Statement::While { .. }
+        | Statement::Try { .. }
+        | Statement::Except { .. }
+        | Statement::Def(_)
         | Statement::Suite(_) => true,
-        _ => false,
+        Statement::Delete(_) | Statement::For { .. } | Statement::Class { .. } => false,
     }
 }

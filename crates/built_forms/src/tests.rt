@@ -41,8 +41,30 @@ fn least_lines(rt: HostRuntime) -> Result<(), Fail> {
         receiver: 0,
         name: Text::from_str(alloc, "x")?,
     }))?;
-    nodes.push(Node::Statement(Statement::Def(0)))?;
+    nodes.push(Node::Statement(Statement::Delete(4)))?;
     let several = program(alloc, nodes, &[7, 7, 7, 7, 3, 4])?;
     assert_eq!(rt; first_unbuilt(&several), Some(3));
+    Ok(())
+}
+
+/// The nodes of `word.args`.
+fn attribute(alloc: Global, word: &str) -> Result<Items<Node>, Fail> {
+    let mut nodes = Items::new(alloc);
+    nodes.push(Node::Expression(Expression::Name(Text::from_str(alloc, word)?)))?;
+    nodes.push(Node::Expression(Expression::Attribute {
+        receiver: 0,
+        name: Text::from_str(alloc, "args")?,
+    }))?;
+    Ok(nodes)
+}
+
+#[test]
+fn attributes(rt: HostRuntime) -> Result<(), Fail> {
+    let alloc = rt.alloc();
+    let mut handled = program(alloc, attribute(alloc, "e")?, &[1, 2])?;
+    handled.handler_names.push(Text::from_str(alloc, "e")?)?;
+    assert_eq!(rt; first_unbuilt(&handled), None);
+    let other = program(alloc, attribute(alloc, "x")?, &[1, 2])?;
+    assert_eq!(rt; first_unbuilt(&other), Some(2));
     Ok(())
 }

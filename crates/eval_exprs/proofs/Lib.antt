@@ -1,1 +1,5 @@
 pub mod Cases
+pub mod Moving
+pub mod Objects
+pub mod Operands
+pub mod Shapes

@@ -1,26 +1,30 @@
-ghost use Rattle.std.specs.Prelude.{IfOk, List};
+ghost use Rattle.std.specs.Prelude.{IfOk, List, None};
 ghost use Rattle.rp_base.specs.declared.value.Value.TheVariants as value;
 ghost use Rattle.py_ast.specs.declared.expression.Expression.TheVariants as expression;
 ghost use Rattle.eval_frames.specs.declared.frame.Frame.{Frame};
 ghost use Rattle.language_rules.specs.Answers.{gives};
 ghost use Rattle.eval_frames.specs.Meaning.{IsLight, Means, MeansIn};
 ghost use Rattle.language_rules.specs.AtOnce.{stated};
-ghost use Rattle.language_rules.specs.Expressions.{expression_rule};
+ghost use Rattle.language_rules.specs.Expressions.{attribute_rule, expression_rule};
 ghost use Rattle.language_rules.specs.States.{State};
+ghost use Rattle.py_store.specs.declared.cell.Cell.{Cell};
+ghost use Rattle.eval_exprs.specs.Steps.{MeansAt};
 
 use crate::calls::begin_call;
 use crate::chains::{begin_all, begin_any, begin_chain};
 use crate::gather::gather;
-use eval_frames::{Decision, ExpressionFrame, Frame, Gathering, Next, answered, enter_over};
+use crate::handler_names::{begin_handler_name, handler_at};
+use eval_frames::{
+    Decision, ExpressionFrame, Frame, Gathering, HandlerReading, Next, answered, enter_over,
+};
 use eval_names::read_name;
 use object_operations::{Completion, Env};
 use py_ast::{Expression, Program};
-use py_store::Store;
-use rp_base::{Beyond, BinaryOp, NoMemory, Plain, UnaryOp, Value};
+use py_store::{Cell, Store};
+use rp_base::{Beyond, BinaryOp, NoMemory, Plain, Text, UnaryOp, Value};
 use std::alloc::Global;
 
-/// An expression begins, behind its unit. Displays of lists and dicts, functions without a name, attributes and calls
-/// of objects are not built yet.
+/// An expression begins, behind its unit. Displays of lists and dicts are not built yet.
 pub fn begin_expression(
     alloc: Global,
     stack: &mut Vec<Frame>,
@@ -36,7 +40,7 @@ pub fn begin_expression(
         Expression::Name(name) => answered(read_name(alloc, store, texts, env, name.as_str())),
         Expression::Builtin(_) => Ok(Next::Leave(Beyond::NotYet)),
         Expression::Constant(value) => begin_constant(alloc, value),
-        Expression::Tuple(items) => begin_tuple(alloc, stack, env, items.as_slice()),
+        Expression::Tuple(items) => begin_tuple(alloc, stack, store, env, items.as_slice()),
         &Expression::Conditional {
             then,
             test,
@@ -50,12 +54,21 @@ pub fn begin_expression(
         &Expression::Binary { op, left, right } => begin_binary(stack, env, op, left, right),
         &Expression::Item { receiver, key } => begin_item(stack, env, receiver, key),
         Expression::Call { callee, arguments } => {
-            begin_call(alloc, stack, texts, env, *callee, arguments.as_slice())
+            begin_call(
+                alloc,
+                stack,
+                store,
+                texts,
+                env,
+                *callee,
+                arguments.as_slice(),
+            )
         }
-        Expression::List(_)
-        | Expression::Dict(_)
-        | Expression::Lambda(_)
-        | Expression::Attribute { .. } => Err(NoMemory),
+        &Expression::Lambda(function) => Ok(begin_lambda(env, function)),
+        Expression::Attribute { receiver, name } => {
+            begin_attribute(alloc, stack, texts, env, *receiver, name)
+        }
+        Expression::List(_) | Expression::Dict(_) => Err(NoMemory),
     }
 }
 
@@ -69,13 +82,60 @@ fn begin_constant(alloc: Global, constant: &Plain) -> Result<Next, NoMemory>
 fn begin_tuple(
     alloc: Global,
     stack: &mut Vec<Frame>,
+    store: &Store,
     env: Env,
     items: &[u32],
 ) -> Result<Next, NoMemory>
-    ensures means { IfOk result (λ next. Means stack.new.items next (expression_rule env (expression.Tuple items.now)) stack.old.items) }
+    ensures means { IfOk result (λ next. MeansAt store.now.cells stack.new.items next (expression_rule env (expression.Tuple items.now)) stack.old.items) }
     ensures light { IfOk result (λ next. IsLight stack.new.items next stack.old.items) }
 {
-    gather(alloc, stack, env, Gathering::Tuple, items)
+    gather(alloc, stack, store, env, Gathering::Tuple, items)
+}
+
+/// A function without a name.
+fn begin_lambda(env: Env, function: u32) -> Next
+    ensures means { (stack : List Frame) → Means stack result (expression_rule env (expression.Lambda function)) stack }
+    ensures light { (stack : List Frame) → IsLight stack result stack }
+{
+    Next::Make(Cell::Function {
+        text: env.text,
+        function,
+        scope: env.scope,
+    })
+}
+
+/// `e.args` of a handler's name; else the receiver, which is then asked.
+fn begin_attribute(
+    alloc: Global,
+    stack: &mut Vec<Frame>,
+    texts: &[Program],
+    env: Env,
+    receiver: u32,
+    name: &Text,
+) -> Result<Next, NoMemory>
+    ensures means { IfOk result (λ next. (fixed : State) (cells : List Cell) → MeansIn (stated fixed cells texts.now) stack.new.items next (expression_rule env (expression.Attribute receiver name.now)) stack.old.items) }
+    ensures light { IfOk result (λ next. IsLight stack.new.items next stack.old.items) }
+{
+    match handler_at(alloc, texts, env, receiver)? {
+        Some(handler) => begin_handler_name(stack, env, handler, HandlerReading::Args),
+        None => enter_receiver(alloc, stack, env, receiver, name),
+    }
+}
+
+fn enter_receiver(
+    alloc: Global,
+    stack: &mut Vec<Frame>,
+    env: Env,
+    object: u32,
+    name: &Text,
+) -> Result<Next, NoMemory>
+    ensures means { IfOk result (λ next. Means stack.new.items next (attribute_rule env object name.now None) stack.old.items) }
+    ensures light { IfOk result (λ next. IsLight stack.new.items next stack.old.items) }
+{
+    let frame = ExpressionFrame::Attribute {
+        name: name.copy(alloc)?,
+    };
+    enter_over(stack, Frame::Expression(frame), env, object)
 }
 
 fn begin_conditional(

@@ -57,6 +57,14 @@ pub fn decide_not(holds: bool) -> Next
     Next::Give(Completion::Gives(Value::Plain(Plain::Bool(!holds))))
 }
 
+/// The truth itself.
+pub fn decide_bool(holds: bool) -> Next
+    ensures means { (stack : List Frame) (v : Value) → Means stack result (decides decision.Bool v holds) stack }
+    ensures light { (stack : List Frame) → IsLight stack result stack }
+{
+    Next::Give(Completion::Gives(Value::Plain(Plain::Bool(holds))))
+}
+
 /// One of the two values of a conditional.
 pub fn decide_conditional(env: Env, then: u32, otherwise: u32, holds: bool) -> Next
     ensures means { (stack : List Frame) (v : Value) → Means stack result (decides (decision.Conditional env then otherwise) v holds) stack }

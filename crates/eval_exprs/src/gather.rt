@@ -4,11 +4,14 @@ ghost use Rattle.py_ast.specs.declared.builtin.Builtin.TheVariants as builtin;
 ghost use Rattle.eval_frames.specs.declared.frame.Gathering.TheVariants as gathering;
 ghost use Rattle.eval_frames.specs.Meaning.{IsLight, Means, gathers};
 ghost use Rattle.language_rules.specs.Going.{evaluates_all, evaluates_behind};
+ghost use Rattle.eval_exprs.specs.Steps.{MeansAt};
 
-use builtin_functions::builtin;
-use eval_frames::{ExpressionFrame, Frame, Gathering, Next, computed, enter_over, waiting_numbers};
+use crate::builtins::call_function;
+use crate::raising::raise;
+use eval_frames::{ExpressionFrame, Frame, Gathering, Next, enter_over, waiting_numbers};
 use object_operations::{Completion, Env};
 use py_ast::Builtin;
+use py_store::Store;
 use rp_base::{NoMemory, TupleEnd, Value, make_tuple};
 use sqlite_items::Items;
 use std::alloc::Global;
@@ -17,27 +20,37 @@ use std::alloc::Global;
 pub fn gather(
     alloc: Global,
     stack: &mut Vec<Frame>,
+    store: &Store,
     env: Env,
     gathering: Gathering,
     expressions: &[u32],
 ) -> Result<Next, NoMemory>
-    ensures means { IfOk result (λ next. Means stack.new.items next (evaluates_all env expressions.now (gathers gathering)) stack.old.items) }
+    ensures means { IfOk result (λ next. MeansAt store.now.cells stack.new.items next (evaluates_all env expressions.now (gathers gathering)) stack.old.items) }
     ensures light { IfOk result (λ next. IsLight stack.new.items next stack.old.items) }
 {
     let waiting = waiting_numbers(alloc, expressions)?;
-    gather_further(alloc, stack, env, gathering, Items::new(alloc), waiting)
+    gather_further(
+        alloc,
+        stack,
+        store,
+        env,
+        gathering,
+        Items::new(alloc),
+        waiting,
+    )
 }
 
 /// The expressions that wait, behind these values.
 pub fn gather_further(
     alloc: Global,
     stack: &mut Vec<Frame>,
+    store: &Store,
     env: Env,
     gathering: Gathering,
     values: Items<Value>,
     mut waiting: Items<u32>,
 ) -> Result<Next, NoMemory>
-    ensures means { IfOk result (λ next. Means stack.new.items next (evaluates_behind env values (reverse waiting) (gathers gathering)) stack.old.items) }
+    ensures means { IfOk result (λ next. MeansAt store.now.cells stack.new.items next (evaluates_behind env values (reverse waiting) (gathers gathering)) stack.old.items) }
     ensures light { IfOk result (λ next. IsLight stack.new.items next stack.old.items) }
 {
     match waiting.pop() {
@@ -50,19 +63,26 @@ pub fn gather_further(
             };
             enter_over(stack, Frame::Expression(frame), env, expression)
         }
-        None => gathered(alloc, gathering, values),
+        None => gathered(alloc, stack, store, gathering, values),
     }
 }
 
 /// What is made of values that are all there.
-fn gathered(alloc: Global, gathering: Gathering, values: Items<Value>) -> Result<Next, NoMemory>
-    ensures means { IfOk result (λ next. (stack : List Frame) → Means stack next (gathers gathering values) stack) }
-    ensures light { IfOk result (λ next. (stack : List Frame) → IsLight stack next stack) }
+fn gathered(
+    alloc: Global,
+    stack: &mut Vec<Frame>,
+    store: &Store,
+    gathering: Gathering,
+    values: Items<Value>,
+) -> Result<Next, NoMemory>
+    ensures means { IfOk result (λ next. MeansAt store.now.cells stack.new.items next (gathers gathering values) stack.old.items) }
+    ensures light { IfOk result (λ next. IsLight stack.new.items next stack.old.items) }
 {
     match gathering {
         Gathering::Tuple => tuple(alloc, values),
+        Gathering::Raise(kind) => raise(alloc, kind, values),
         Gathering::Builtin(Builtin::Print) => print(values),
-        Gathering::Builtin(function) => computed(builtin(alloc, function, values.as_slice())),
+        Gathering::Builtin(function) => call_function(alloc, stack, store, function, values),
     }
 }
 

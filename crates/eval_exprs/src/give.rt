@@ -1,31 +1,32 @@
-ghost use Rattle.std.specs.Prelude.{IfOk, List, reverse};
-ghost use Rattle.eval_frames.specs.declared.frame.Decision.TheVariants as decision;
+ghost use Rattle.std.specs.Prelude.{IfOk, List};
+ghost use Rattle.py_ast.specs.declared.program.Program.{Program};
+ghost use Rattle.eval_frames.specs.declared.frame.Frame.{Frame};
 ghost use Rattle.eval_frames.specs.declared.frame.ExpressionFrame.TheVariants as expression_frame;
-ghost use Rattle.eval_frames.specs.Meaning.{IsLight, Means, decides, through_expression};
-ghost use Rattle.side_trees.specs.Trees.{bind};
-ghost use Rattle.language_rules.specs.AtOnce.{ComputesUnlessAsked};
-ghost use Rattle.language_rules.specs.Chains.{links_from, links_rule};
-ghost use Rattle.language_rules.specs.Going.{RuleTree, on_value};
-ghost use Rattle.language_rules.specs.Truth.{on_truth};
+ghost use Rattle.eval_frames.specs.Meaning.{IsLight, Means, MeansIn, through_expression};
+ghost use Rattle.language_rules.specs.AtOnce.{stated};
+ghost use Rattle.language_rules.specs.States.{State};
+ghost use Rattle.eval_exprs.specs.Steps.{MeansAt};
 
-use crate::decide::decide_link;
+use crate::calls::gather_arguments;
 use crate::gather::gather_further;
-use eval_frames::{ExpressionFrame, Frame, Gathering, Next, computed, enter_over};
-use object_operations::{Completion, Env};
-use py_ast::{Comparison, Link};
-use rp_base::{Beyond, BinaryOp, NoMemory, OpEnd, Value};
+use crate::links::{give_first, give_right};
+use crate::operating::{give_binary, give_key, give_unary};
+use eval_frames::{ExpressionFrame, Frame, Gathering, Next, enter_over, operate};
+use object_operations::{Env, Operation};
+use py_store::Store;
+use rp_base::{BinaryOp, NoMemory, Text, Value};
 use sqlite_items::Items;
 use std::alloc::Global;
-use value_operators::{binary, item, link, truth, unary};
 
 /// An expression goes on with the value of a part.
 pub fn give_expression(
     alloc: Global,
     stack: &mut Vec<Frame>,
+    store: &Store,
     frame: ExpressionFrame,
     value: Value,
 ) -> Result<Next, NoMemory>
-    ensures means { IfOk result (λ next. Means stack.new.items next (through_expression frame value) stack.old.items) }
+    ensures means { IfOk result (λ next. (fixed : State) (texts : List Program) → MeansIn (stated fixed store.now.cells texts) stack.new.items next (through_expression frame value) stack.old.items) }
     ensures light { IfOk result (λ next. IsLight stack.new.items next stack.old.items) }
 {
     match frame {
@@ -34,12 +35,12 @@ pub fn give_expression(
             gathering,
             values,
             waiting,
-        } => give_operand(alloc, stack, env, gathering, values, waiting, value),
-        ExpressionFrame::Unary(op) => computed(unary(alloc, op, &value)),
+        } => give_operand(alloc, stack, store, env, gathering, values, waiting, value),
+        ExpressionFrame::Unary(op) => give_unary(alloc, op, value),
         ExpressionFrame::BinaryLeft { env, op, right } => give_left(stack, env, op, right, value),
-        ExpressionFrame::BinaryRight { op, left } => computed(binary(alloc, op, &left, &value)),
+        ExpressionFrame::BinaryRight { op, left } => give_binary(alloc, store, op, left, value),
         ExpressionFrame::ItemReceiver { env, key } => give_receiver(stack, env, key, value),
-        ExpressionFrame::ItemKey { receiver } => computed(item(alloc, &receiver, &value)),
+        ExpressionFrame::ItemKey { receiver } => give_key(alloc, receiver, value),
         ExpressionFrame::ChainFirst { env, waiting } => give_first(stack, env, waiting, value),
         ExpressionFrame::ChainRight {
             env,
@@ -47,23 +48,32 @@ pub fn give_expression(
             comparison,
             waiting,
         } => give_right(alloc, stack, env, left, comparison, waiting, value),
+        ExpressionFrame::Callee { env, waiting } => give_callee(alloc, stack, env, waiting, value),
+        ExpressionFrame::Arguments {
+            env,
+            callee,
+            values,
+            waiting,
+        } => give_argument(stack, env, callee, values, waiting, value),
+        ExpressionFrame::Attribute { name } => Ok(give_attribute(name, value)),
     }
 }
 
 fn give_operand(
     alloc: Global,
     stack: &mut Vec<Frame>,
+    store: &Store,
     env: Env,
     gathering: Gathering,
     mut values: Items<Value>,
     waiting: Items<u32>,
     value: Value,
 ) -> Result<Next, NoMemory>
-    ensures means { IfOk result (λ next. Means stack.new.items next (through_expression (expression_frame.Operands env gathering values waiting) value) stack.old.items) }
+    ensures means { IfOk result (λ next. MeansAt store.now.cells stack.new.items next (through_expression (expression_frame.Operands env gathering values waiting) value) stack.old.items) }
     ensures light { IfOk result (λ next. IsLight stack.new.items next stack.old.items) }
 {
     values.push(value)?;
-    gather_further(alloc, stack, env, gathering, values, waiting)
+    gather_further(alloc, stack, store, env, gathering, values, waiting)
 }
 
 fn give_left(
@@ -93,87 +103,39 @@ fn give_receiver(
     enter_over(stack, Frame::Expression(frame), env, key)
 }
 
-/// The first link of a chain, behind its first operand.
-fn give_first(
-    stack: &mut Vec<Frame>,
-    env: Env,
-    mut waiting: Items<Link>,
-    left: Value,
-) -> Result<Next, NoMemory>
-    ensures means { IfOk result (λ next. Means stack.new.items next (links_rule env left (reverse waiting)) stack.old.items) }
-    ensures light { IfOk result (λ next. IsLight stack.new.items next stack.old.items) }
-{
-    match waiting.pop() {
-        Some(link) => {
-            let frame = ExpressionFrame::ChainRight {
-                env,
-                left,
-                comparison: link.comparison,
-                waiting,
-            };
-            enter_over(stack, Frame::Expression(frame), env, link.right)
-        }
-        None => Ok(Next::Leave(Beyond::NotYet)),
-    }
-}
-
-/// A link of a chain whose operands are there, with the links behind it.
-fn give_right(
+/// The callee of a call is there, and its arguments follow.
+fn give_callee(
     alloc: Global,
     stack: &mut Vec<Frame>,
     env: Env,
-    left: Value,
-    comparison: Comparison,
-    mut waiting: Items<Link>,
-    right: Value,
+    waiting: Items<u32>,
+    callee: Value,
 ) -> Result<Next, NoMemory>
-    ensures means { IfOk result (λ next. Means stack.new.items next (links_from env (reverse waiting) comparison left right) stack.old.items) }
+    ensures means { IfOk result (λ next. Means stack.new.items next (through_expression (expression_frame.Callee env waiting) callee) stack.old.items) }
     ensures light { IfOk result (λ next. IsLight stack.new.items next stack.old.items) }
 {
-    let answer = link(alloc, comparison, &left, &right);
-    match waiting.pop() {
-        Some(next) => go_on_behind(stack, env, right, next, waiting, answer),
-        None => computed(answer),
-    }
+    gather_arguments(stack, env, callee, Items::new(alloc), waiting)
 }
 
-/// What a link came to decides whether the chain goes on. That an object is asked is not built yet.
-fn go_on_behind(
+fn give_argument(
     stack: &mut Vec<Frame>,
     env: Env,
-    right: Value,
-    next: Link,
-    waiting: Items<Link>,
-    answer: Result<Option<Value>, OpEnd>,
+    callee: Value,
+    mut values: Items<Value>,
+    waiting: Items<u32>,
+    argument: Value,
 ) -> Result<Next, NoMemory>
-    ensures means { IfOk result (λ n. (t : RuleTree) → ComputesUnlessAsked t answer → Means stack.new.items n (bind t (on_value (λ v. on_truth v (decides (decision.Link env right next waiting) v)))) stack.old.items) }
-    ensures light { IfOk result (λ n. IsLight stack.new.items n stack.old.items) }
+    ensures means { IfOk result (λ next. Means stack.new.items next (through_expression (expression_frame.Arguments env callee values waiting) argument) stack.old.items) }
+    ensures light { IfOk result (λ next. IsLight stack.new.items next stack.old.items) }
 {
-    match answer {
-        Ok(Some(value)) => test_link(stack, env, right, next, waiting, value),
-        Ok(None) => Err(NoMemory),
-        Err(OpEnd::Raise(raised)) => Ok(Next::Give(Completion::Raises(raised))),
-        Err(OpEnd::Beyond(beyond)) => Ok(Next::Leave(beyond)),
-        Err(OpEnd::NoMemory) => Err(NoMemory),
-    }
+    values.push(argument)?;
+    gather_arguments(stack, env, callee, values, waiting)
 }
 
-fn test_link(
-    stack: &mut Vec<Frame>,
-    env: Env,
-    right: Value,
-    next: Link,
-    waiting: Items<Link>,
-    value: Value,
-) -> Result<Next, NoMemory>
-    ensures means { IfOk result (λ n. Means stack.new.items n (on_truth value (decides (decision.Link env right next waiting) value)) stack.old.items) }
-    ensures light { IfOk result (λ n. IsLight stack.new.items n stack.old.items) }
+/// An attribute is asked of its receiver.
+fn give_attribute(name: Text, receiver: Value) -> Next
+    ensures means { (stack : List Frame) → Means stack result (through_expression (expression_frame.Attribute name) receiver) stack }
+    ensures light { (stack : List Frame) → IsLight stack result stack }
 {
-    match truth(&value) {
-        Ok(Some(holds)) => decide_link(stack, env, right, next, waiting, value, holds),
-        Ok(None) => Err(NoMemory),
-        Err(OpEnd::Raise(raised)) => Ok(Next::Give(Completion::Raises(raised))),
-        Err(OpEnd::Beyond(beyond)) => Ok(Next::Leave(beyond)),
-        Err(OpEnd::NoMemory) => Err(NoMemory),
-    }
+    operate(Operation::GetAttr { receiver, name })
 }

@@ -1,14 +1,26 @@
 //! The steps of a machine at expressions: how each begins, and how it goes on with the value of a part.
 #![tactic(auto)]
 
+mod asking;
 mod begin;
+mod builtins;
 mod calls;
 mod chains;
+mod comparing;
 mod decide;
 mod gather;
 mod give;
+mod handler_names;
+mod kinds;
+mod links;
+mod operating;
+mod raising;
+mod testing;
 
 pub use begin::begin_expression;
 pub use chains::{begin_and, begin_or};
-pub use decide::{decide_and, decide_conditional, decide_link, decide_not, decide_or};
+pub use comparing::give_comparison;
+pub use decide::{decide_and, decide_bool, decide_conditional, decide_link, decide_not, decide_or};
 pub use give::give_expression;
+pub use operating::give_operation;
+pub use testing::{ask_truth, told_truth};

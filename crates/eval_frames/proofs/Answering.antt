@@ -1,12 +1,10 @@
 -- What comes of an answer, in every run.
-use Rattle.std.proofs.Common.{◌≡◌, ℕ, List, reverse, Some, Ok, Err, refl, sym, ◌∙◌, ap}
+use Rattle.std.proofs.Common.{◌≡◌, List, reverse, Some, Ok, Err, sym, ap}
 use Rattle.rp_base.specs.declared.exceptions.Beyond.{Beyond}
-use Rattle.rp_base.specs.declared.exceptions.Raised.{Raised}
-use Rattle.rp_base.specs.declared.value.Value.{Value}
 use Rattle.side_trees.specs.Trees.{Return, Stop, bind}
 use Rattle.language_rules.proofs.RunLemmas.{goes_on, leaves}
 use Rattle.language_rules.specs.AtOnce.{at_once}
-use Rattle.language_rules.specs.Codes.{Completion, Gives, Raises}
+use Rattle.language_rules.specs.Codes.{Completion}
 use Rattle.language_rules.specs.Going.{RuleTree}
 use Rattle.language_rules.specs.Rules.{expand}
 use Rattle.language_rules.specs.Running.{prints_behind}

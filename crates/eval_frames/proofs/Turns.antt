@@ -1,10 +1,10 @@
 -- The turns of a `while`.
-use Rattle.std.proofs.Common.{◌≡◌, ℕ, zero, suc, List, refl, ap}
+use Rattle.std.proofs.Common.{ℕ, zero, suc, refl, ap}
 use Rattle.side_trees.proofs.BindLaw.{bind-bind}
 use Rattle.side_trees.specs.Trees.{bind}
 use Rattle.language_rules.specs.Beginnings.{while_begins}
 use Rattle.language_rules.specs.Codes.{Completion, Env}
-use Rattle.language_rules.specs.Going.{RuleTree, on_value}
+use Rattle.language_rules.specs.Going.{RuleTree}
 use Rattle.language_rules.specs.Nodes.{node_rule}
 use Rattle.language_rules.specs.Running.{runs}
 use Rattle.language_rules.specs.States.{State}

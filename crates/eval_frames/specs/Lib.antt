@@ -1,1 +1,3 @@
+pub mod HandlerFrames
 pub mod Meaning
+pub mod ObjectFrames

@@ -1,21 +1,28 @@
 -- What a frame makes of the end that it waits for, and what a whole stack does next.
-use Rattle.std.specs.Prelude.{◌≡◌, ◌+◌, ◌*◌, ◌≤◌, ℕ, Bool, not, List, [], ◌∷◌, ◌++◌, length, reverse, if◌then◌else◌}
+use Rattle.std.specs.Prelude.{◌≡◌, ◌+◌, ◌*◌, ◌≤◌, ℕ, Bool, not, List, [], ◌∷◌, ◌++◌, length, reverse, Some, if◌then◌else◌}
 use Rattle.rp_base.specs.Values.{tuple_of}
 use Rattle.rp_base.specs.declared.value.Value.{Value}
+use Rattle.py_ast.specs.declared.program.Program.{Program}
+use Rattle.py_store.specs.declared.cell.Cell.{Cell}
+use Rattle.py_store.specs.declared.cell.Cell.TheVariants as cell
+use Rattle.object_operations.specs.declared.operation.Operation.{Operation}
+use Rattle.object_operations.specs.declared.operation.Operation.TheVariants as operation
 use Rattle.side_trees.specs.Trees.{Return, Stop, Spend, Do, Ask, bind}
-use Rattle.language_rules.specs.Answers.{tuple_answers, evaluated, gives}
+use Rattle.language_rules.specs.Answers.{asked, tuple_answers, evaluated, gives}
 use Rattle.language_rules.specs.Beginnings.{while_begins}
 use Rattle.language_rules.specs.Builtins.{builtin_rule}
 use Rattle.language_rules.specs.Chains.{or_from, and_from, links_rule, links_from}
-use Rattle.language_rules.specs.Codes.{Completion, Env, Node, Perform, Give}
-use Rattle.language_rules.specs.Going.{RuleTree, boolean, done, evaluates, evaluates_behind, executes_all, on_value}
+use Rattle.language_rules.specs.Codes.{Completion, Env, Node, Perform, Give, Returns}
+use Rattle.language_rules.specs.Functions.{returned}
+use Rattle.language_rules.specs.Going.{RuleTree, boolean, done, evaluates, evaluates_behind, executes_all, gives_new, on_value, operates, sets_cell}
 use Rattle.language_rules.specs.Loops.{next_turn}
 use Rattle.language_rules.specs.Names.{binds_name}
 use Rattle.language_rules.specs.Operators.{unary_rule, binary_rule, augmented_rule}
 use Rattle.language_rules.specs.Output.{prints}
 use Rattle.language_rules.specs.PlainItems.{item_of}
 use Rattle.language_rules.specs.Running.{runs}
-use Rattle.language_rules.specs.States.{State}
+use Rattle.language_rules.specs.Raising.{raise_with}
+use Rattle.language_rules.specs.States.{Handling, State}
 use Rattle.language_rules.specs.Statements.{otherwise_rule}
 use Rattle.language_rules.specs.Targets.{assigns}
 use Rattle.language_rules.specs.Texts.{executes_suite}
@@ -28,6 +35,8 @@ use Rattle.eval_frames.specs.declared.frame.Frame.{Frame}
 use Rattle.eval_frames.specs.declared.frame.Frame.TheVariants as frame
 use Rattle.eval_frames.specs.declared.frame.Gathering.{Gathering}
 use Rattle.eval_frames.specs.declared.frame.Gathering.TheVariants as gathering
+use Rattle.eval_frames.specs.HandlerFrames.{through_handler}
+use Rattle.eval_frames.specs.ObjectFrames.{through_comparison, through_operation, through_printing}
 use Rattle.eval_frames.specs.declared.frame.StatementFrame.{StatementFrame}
 use Rattle.eval_frames.specs.declared.frame.StatementFrame.TheVariants as statement_frame
 use Rattle.eval_frames.specs.declared.next.Next.{Next}
@@ -44,11 +53,17 @@ decides (decision.Conditional env first last) v holds = if holds then evaluated 
 decides (decision.Link env left l waiting) v holds = if holds then evaluates env l.right (λ d. links_from env (reverse waiting) l.comparison left d) else gives v
 decides (decision.If env body otherwise) v holds = if holds then executes_suite env body else otherwise_rule env otherwise
 decides (decision.While env test body) v holds = if holds then bind (executes_suite env body) (next_turn (while_begins env test body)) else Return done
+decides decision.Bool v holds = gives (boolean holds)
 
 -- what is made of values
 abbrev pub gathers : Gathering → List Value → RuleTree
 gathers gathering.Tuple vs = tuple_answers (tuple_of vs)
 gathers (gathering.Builtin function) vs = builtin_rule function vs
+gathers (gathering.Raise kind) vs = raise_with (Some kind) vs
+
+-- a call of what is called, with its arguments
+abbrev pub calls : Value → List Value → RuleTree
+calls callee arguments = asked (operation.Call callee arguments)
 
 -- what waits for a value, with that value
 abbrev pub through_expression : ExpressionFrame → Value → RuleTree
@@ -60,20 +75,31 @@ through_expression (expression_frame.ItemReceiver env key) v = evaluates env key
 through_expression (expression_frame.ItemKey v) k = item_of v k
 through_expression (expression_frame.ChainFirst env waiting) a = links_rule env a (reverse waiting)
 through_expression (expression_frame.ChainRight env a comparison waiting) b = links_from env (reverse waiting) comparison a b
+through_expression (expression_frame.Callee env waiting) callee = evaluates_behind env [] (reverse waiting) (calls callee)
+through_expression (expression_frame.Arguments env callee values waiting) v = evaluates_behind env (values ++ v ∷ []) (reverse waiting) (calls callee)
+through_expression (expression_frame.Attribute name) v = asked (operation.GetAttr v name)
 
 abbrev pub through_statement : StatementFrame → Value → RuleTree
 through_statement statement_frame.Alone v = Return done
 through_statement (statement_frame.Suite env waiting) v = executes_all env (reverse waiting)
 through_statement (statement_frame.Assign env target) v = assigns env target v
 through_statement (statement_frame.AugmentName env o name old) v = bind (augmented_rule o old v) (on_value (λ w. binds_name env name w (Return done)))
+through_statement (statement_frame.BindName env name) v = binds_name env name v (Return done)
+through_statement statement_frame.Return v = Return (Returns v)
 
 -- what waits, with the end that it waits for: an exception, and any end that leaves more, passes what waits for a value
 abbrev pub resume : Frame → Completion → RuleTree
 resume (frame.Expression f) a = on_value (through_expression f) a
 resume (frame.Statement f) a = on_value (through_statement f) a
+resume (frame.Handler f) a = through_handler f a
+resume (frame.Operation f) a = through_operation f a
+resume (frame.Comparison f) a = through_comparison f a
+resume (frame.Printing f) a = through_printing f a
 resume (frame.Test d) a = on_value (λ v. on_truth v (decides d v)) a
 resume (frame.Truth d v) a = on_bool (decides d v) a
 resume (frame.While env test body) a = next_turn (while_begins env test body) a
+resume frame.Call a = Return (returned a)
+resume (frame.EmptiedCall scope parent) a = sets_cell scope (cell.Scope [] parent) (Return (returned a))
 
 -- ---- stacks
 
@@ -89,6 +115,8 @@ meant fs (next.Perform o) = Do (Perform o) (λ a. Give a) (rest (reverse fs))
 meant fs (next.Give a) = rest (reverse fs) a
 meant fs (next.Print vs) = bind (prints vs) (rest (reverse fs))
 meant fs (next.Ask o) = Ask o (λ a. Give a) (rest (reverse fs))
+meant fs (next.Make c) = bind (gives_new c) (rest (reverse fs))
+meant fs next.HandlerName = Spend (Give done) (rest (reverse fs))
 meant fs (next.Leave b) = Stop b
 
 -- a node that begins, whose end goes to a frame over what waits
@@ -106,6 +134,26 @@ RunsAs s t t' = (units : ℕ) (printed : List ℕ) → runs units t s printed �
 abbrev pub MeansIn : State → List Frame → Next → RuleTree → List Frame → Type 0
 MeansIn s now n t before = RunsAs s (bind t (rest (reverse before))) (meant now n)
 
+-- What comes next over the new stack, in the state after, is this computation in the state before, and then what waited: no run tells them apart.
+abbrev pub MeansOver : State → State → List Frame → Next → RuleTree → List Frame → Type 0
+MeansOver s s' now n t before = (units : ℕ) (printed : List ℕ) → runs units (bind t (rest (reverse before))) s printed ≡ runs units (meant now n) s' printed
+
+-- ---- states
+
+-- the exceptions that are being handled, whose innermost is the last
+abbrev pub handling_in : State → List Program → List Handling → State
+handling_in s texts handled = record s { texts = texts; handled = reverse handled }
+
+-- the state with these cells and texts, and with these exceptions being handled
+abbrev pub situated : State → List Cell → List Program → List Handling → State
+situated s cells texts handled = record s { cells = cells; texts = texts; handled = reverse handled }
+
+-- ---- operations
+
+-- an operation, whose answer goes to a frame over what waits
+abbrev pub operates_over : Operation → Frame → RuleTree
+operates_over o f = operates o (λ a. Give a) (resume f)
+
 -- the test of a `while`, with the frame that waits for its value
 abbrev pub tests : Env → ℕ → ℕ → (Completion → RuleTree) → RuleTree
 tests env test body k = Spend (Node env test) (λ a. bind (resume (frame.Test (decision.While env test body)) a) k)
@@ -116,6 +164,7 @@ tests env test body k = Spend (Node env test) (λ a. bind (resume (frame.Test (d
 abbrev pub due : Next → ℕ
 due (next.Give a) = 10
 due (next.Print vs) = 11
+due (next.Make c) = 11
 due _ = 0
 
 abbrev pub load : List Frame → Next → ℕ

@@ -1,6 +1,8 @@
+use crate::handler_frame::HandlerFrame;
+use crate::object_frames::{ComparisonFrame, OperationFrame, PrintingFrame};
 use object_operations::Env;
 use py_ast::{Builtin, Comparison, Link};
-use rp_base::{BinaryOp, Text, UnaryOp, Value};
+use rp_base::{BinaryOp, ExcKind, Text, UnaryOp, Value};
 use sqlite_items::Items;
 
 /// What is done by the truth of a value. Numbers and links that wait stand the last first.
@@ -41,6 +43,8 @@ pub enum Decision {
         test: u32,
         body: u32,
     },
+    /// The truth itself is the value.
+    Bool,
 }
 
 /// What is made of values that are evaluated one after another.
@@ -48,6 +52,8 @@ pub enum Decision {
 pub enum Gathering {
     Tuple,
     Builtin(Builtin),
+    /// An exception of this kind, which has the values as its arguments.
+    Raise(ExcKind),
 }
 
 /// What waits for the value of an expression within an expression.
@@ -89,6 +95,22 @@ pub enum ExpressionFrame {
         comparison: Comparison,
         waiting: Items<Link>,
     },
+    /// The callee of a call, in front of its arguments.
+    Callee {
+        env: Env,
+        waiting: Items<u32>,
+    },
+    /// The arguments of a call so far, and the numbers of those that are still to be evaluated.
+    Arguments {
+        env: Env,
+        callee: Value,
+        values: Items<Value>,
+        waiting: Items<u32>,
+    },
+    /// The receiver of an attribute.
+    Attribute {
+        name: Text,
+    },
 }
 
 /// What waits for the value of an expression, or for the end of a statement, within a statement.
@@ -110,6 +132,12 @@ pub enum StatementFrame {
         name: Text,
         old: Value,
     },
+    /// The value goes to a name.
+    BindName {
+        env: Env,
+        name: Text,
+    },
+    Return,
 }
 
 /// What waits for the end of a piece of code.
@@ -117,10 +145,18 @@ pub enum StatementFrame {
 pub enum Frame {
     Expression(ExpressionFrame),
     Statement(StatementFrame),
+    Handler(HandlerFrame),
+    Operation(OperationFrame),
+    Comparison(ComparisonFrame),
+    Printing(PrintingFrame),
     /// The truth of the value decides.
     Test(Decision),
     /// The truth of this value was asked of an object.
     Truth { decision: Decision, value: Value },
     /// The suite of a `while`.
     While { env: Env, test: u32, body: u32 },
+    /// The body of a function in which another one stands.
+    Call,
+    /// The body of any other function, whose scope is emptied: nothing can read it after the call.
+    EmptiedCall { scope: u32, parent: u32 },
 }

@@ -1,9 +1,12 @@
 ghost use Rattle.std.specs.Prelude.{◌≡◌, ℕ, List, reverse};
 ghost use Rattle.object_operations.specs.declared.ending.Completion.{Completion};
 ghost use Rattle.object_operations.specs.declared.ending.Env.{Env};
-ghost use Rattle.side_trees.specs.Trees.{bind};
+ghost use Rattle.object_operations.specs.declared.operation.Operation.{Operation};
+ghost use Rattle.side_trees.specs.Trees.{Return, bind};
 ghost use Rattle.language_rules.specs.Beginnings.{while_begins};
-ghost use Rattle.language_rules.specs.Going.{RuleTree};
+ghost use Rattle.language_rules.specs.Codes.{Code, Give};
+ghost use Rattle.language_rules.specs.Going.{RuleTree, operates};
+ghost use Rattle.language_rules.specs.Rules.{expand};
 ghost use Rattle.language_rules.specs.States.{State};
 ghost use Rattle.eval_frames.specs.declared.frame.Frame.{Frame};
 ghost use Rattle.eval_frames.specs.declared.frame.Decision.TheVariants as decision;
@@ -19,4 +22,9 @@ pub fn a_loop_tests_again()
 /// What waits for a computation may as well stand on the stack.
 pub fn what_waits_is_pushed()
     ensures { (t : RuleTree) (f : Frame) (k : Completion → RuleTree) → bind (bind t (resume f)) k ≡ bind t (λ a. bind (resume f a) k) }
+{}
+
+/// A piece of code that goes on with an operation's answer may as well wait for it.
+pub fn code_that_goes_on_waits()
+    ensures { (s : State) (o : Operation) (c : Completion → Code) (k : Completion → RuleTree) → RunsAs s (bind (operates o c (λ a. Return a)) k) (bind (operates o (λ a. Give a) (λ a. expand (c a))) k) }
 {}

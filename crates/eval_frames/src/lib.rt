@@ -2,14 +2,20 @@
 //! give. The machine's steps stand in crates of their own.
 #![tactic(auto)]
 
+mod asking;
 mod enter;
 mod frame;
+mod handler_frame;
 mod laws;
 mod next;
 mod nodes;
+mod object_frames;
 
+pub use asking::{are_too_heavy, operate, operate_over};
 pub use enter::enter_over;
 pub use frame::{Decision, ExpressionFrame, Frame, Gathering, StatementFrame};
-pub use laws::{a_loop_tests_again, what_waits_is_pushed};
+pub use handler_frame::{HandlerFrame, HandlerReading};
+pub use laws::{a_loop_tests_again, code_that_goes_on_waits, what_waits_is_pushed};
 pub use next::{Next, answered, computed};
 pub use nodes::{node_at, waiting_numbers};
+pub use object_frames::{ComparisonFrame, OperationFrame, PrintingFrame};

@@ -6,6 +6,7 @@ ghost use Rattle.language_rules.specs.Going.{RuleTree};
 ghost use Rattle.language_rules.specs.States.{State};
 
 use object_operations::{Completion, Env, Operation};
+use py_store::Cell;
 use rp_base::{Beyond, NoMemory, OpEnd, Value};
 use sqlite_items::Items;
 
@@ -22,6 +23,10 @@ pub enum Next {
     Print(Items<Value>),
     /// An operation is asked of the other side.
     Ask(Operation),
+    /// A new cell is made, which is the value.
+    Make(Cell),
+    /// The name of a handler, which costs a unit as any node does.
+    HandlerName,
     /// The script leaves the subset.
     Leave(Beyond),
 }

@@ -8,4 +8,5 @@ mod place;
 #[cfg(test)]
 mod tests;
 
+pub use lookup::{function_at, has_name};
 pub use names::{bind_name, read_name};

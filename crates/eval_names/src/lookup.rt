@@ -13,7 +13,7 @@ use py_store::{Cell, Store};
 use rp_base::Text;
 
 /// Whether the name is among these.
-pub(crate) fn has_name(name: &str, others: &[Text]) -> bool
+pub fn has_name(name: &str, others: &[Text]) -> bool
     ensures { result ≡ has_name name.now others.now }
 {
     for other in others {
@@ -25,7 +25,7 @@ pub(crate) fn has_name(name: &str, others: &[Text]) -> bool
 }
 
 /// The function of this number in the text of this number.
-fn function_at(texts: &[Program], text: u32, number: u32) -> Option<&FunctionInfo>
+pub fn function_at(texts: &[Program], text: u32, number: u32) -> Option<&FunctionInfo>
     ensures { option_copied result ≡ function_of (slice_get texts.now text) number }
 {
     texts

@@ -11,9 +11,8 @@ use Rattle.language_rules.specs.Running.{runs}
 use Rattle.language_rules.specs.States.{State}
 use Rattle.eval_frames.specs.declared.frame.Frame.{Frame}
 use Rattle.eval_frames.specs.declared.next.Next.{Next}
-use Rattle.eval_frames.specs.Meaning.{MeansIn, meant}
+use Rattle.eval_frames.specs.Meaning.{MeansIn, MeansOver, meant}
 use Rattle.eval_names.specs.Bound.{as_done}
-use Rattle.eval_stmts.specs.Changing.{MeansOver}
 
 -- an end without a value says nothing of the state that a value would leave
 comes_without : (t : RuleTree) (s kept now : State) (e : OpEnd) → Comes t s (Err e) now kept → Comes t s (Err e) kept kept

@@ -1,6 +1,6 @@
 pub mod Beginning
 pub mod Bindings
+pub mod KindedOperands
 pub mod LoopTurns
 pub mod NameValues
-pub mod PlainOperands
 pub mod Unpacking

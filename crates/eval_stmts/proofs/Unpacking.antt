@@ -1,22 +1,25 @@
 -- The items of a value go to targets, one after another.
-use Rattle.std.proofs.Common.{◌≡◌, ℕ, ◌+◌, ◌<◌, List, [], ◌∷◌, drop, get_or, length, reverse, slice_get, Option, Some, Result, Ok, Err, IfOk, OnErr, sym, ◌∙◌, ap, subst}
+use Rattle.std.proofs.Common.{◌≡◌, ℕ, ◌+◌, ◌<◌, List, [], ◌∷◌, drop, get_or, length, reverse, slice_get, Option, Some, None, Result, Ok, Err, IfOk, OnErr, sym, ◌∙◌, ap, subst}
 use Rattle.std.proofs.lemmas.List.{drop_more}
 use Rattle.rp_base.specs.declared.ends.NoMemory.{NoMemory}
 use Rattle.rp_base.specs.declared.ends.OpEnd.{OpEnd}
 use Rattle.rp_base.specs.declared.ends.OpEnd.TheVariants as op_end
+use Rattle.rp_base.specs.declared.identity.Kind.{Kind}
 use Rattle.rp_base.specs.declared.value.Value.{Value}
 use Rattle.py_ast.specs.declared.node.Node.{Node}
 use Rattle.py_ast.specs.declared.node.Node.TheVariants as node
 use Rattle.py_ast.specs.declared.program.Program.{Program}
 use Rattle.py_ast.specs.declared.target.Target.TheVariants as target
 use Rattle.py_store.specs.Cells.{Cells}
+use Rattle.py_store.specs.declared.cell.Cell.{Cell}
 use Rattle.side_trees.proofs.BindLaw.{bind-bind}
 use Rattle.side_trees.specs.Trees.{Return, bind}
 use Rattle.language_rules.proofs.RunLemmas.{goes_on}
 use Rattle.language_rules.specs.AtOnce.{Comes, at_once, stated}
-use Rattle.language_rules.specs.Codes.{Env, Raises}
-use Rattle.language_rules.specs.Draining.{unpacks}
+use Rattle.language_rules.specs.Codes.{AList, Env, Raises}
+use Rattle.language_rules.specs.Draining.{counted, goes_over, items_at_hand, unpacks, unpacks_kind}
 use Rattle.language_rules.specs.Going.{RuleTree, done, on_value}
+use Rattle.language_rules.specs.Kinds.{on_kind}
 use Rattle.language_rules.specs.Names.{binds_name}
 use Rattle.language_rules.specs.Rules.{expand}
 use Rattle.language_rules.specs.Running.{prints_behind, runs}
@@ -26,10 +29,10 @@ use Rattle.language_rules.specs.Texts.{as_target, node_of, on_target}
 use Rattle.eval_frames.specs.declared.frame.Frame.{Frame}
 use Rattle.eval_frames.specs.declared.next.Next.{Next}
 use Rattle.eval_frames.specs.declared.next.Next.TheVariants as next
-use Rattle.eval_frames.specs.Meaning.{MeansIn, meant, rest}
+use Rattle.eval_frames.specs.Meaning.{Means, MeansIn, MeansOver, meant, rest}
 use Rattle.eval_names.specs.Bound.{as_done}
+use Rattle.eval_stmts.proofs.KindedOperands.{IsKind, kind_on}
 use Rattle.eval_stmts.proofs.NameValues.{at-once-on}
-use Rattle.eval_stmts.specs.Changing.{MeansOver}
 
 -- ---- one target
 
@@ -105,6 +108,24 @@ pub all_assigned : (env : Env) (texts : List Program) (targets : List ℕ) (item
 all_assigned env texts targets items before now i h is fixed stack units printed =
     h fixed stack units printed
     ∙ ap (λ (ts : List ℕ). runs units (bind (assigns_each env ts (drop i items)) (rest (reverse stack))) (stated fixed now.cells texts) printed) is
+
+-- ---- a value without items at hand
+
+-- the items of a value, where they are at hand
+abbrev unpacked : Value → ℕ → (List Value → RuleTree) → Option (List Value) → RuleTree
+unpacked v n f found = elim found [ Some items ↦ counted n f items | None ↦ on_kind v (unpacks_kind (goes_over AList v (counted n f))) ]
+
+pub unpacked_by_kind : (v : Value) (n : ℕ) (f : List Value → RuleTree) (x : Option Kind) (found : Option (List Value)) (cells : List Cell) (texts : List Program) (result : Result Next NoMemory)
+    → found ≡ items_at_hand v → found ≡ None → IsKind x cells v
+    → IfOk result (λ m. (over : RuleTree) (stack : List Frame) → Means stack m (unpacks_kind over x) stack)
+    → IfOk result (λ m. (fixed : State) (stack : List Frame) → MeansOver (stated fixed cells texts) (stated fixed cells texts) stack m (unpacks v n f) stack)
+unpacked_by_kind v n f x found cells texts (Ok m) told is is-x h = λ fixed stack units printed.
+    let over : RuleTree = goes_over AList v (counted n f) in
+    ap (λ (o : Option (List Value)). runs units (bind (unpacked v n f o) (rest (reverse stack))) (stated fixed cells texts) printed) (sym told ∙ is)
+    ∙ kind_on (stated fixed cells texts) v (unpacks_kind over) (rest (reverse stack)) units printed
+    ∙ ap (λ (k : Option Kind). runs units (bind (unpacks_kind over k) (rest (reverse stack))) (stated fixed cells texts) printed) (sym (is-x fixed texts))
+    ∙ ap (λ (t : RuleTree). runs units t (stated fixed cells texts) printed) (sym (h over stack))
+unpacked_by_kind v n f x found cells texts (Err e) told is is-x h = h
 
 -- targets with a comma
 pub tuple_found : (env : Env) (n : ℕ) (v : Value) (ts : List ℕ) (before after : Cells) (texts : List Program) (result : Result Next NoMemory)

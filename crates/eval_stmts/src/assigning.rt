@@ -1,27 +1,26 @@
-ghost use Rattle.std.specs.Prelude.{◌≡◌, ◌∷◌, [], IfOk, List, OnErr, codes, length};
+ghost use Rattle.std.specs.Prelude.{◌≡◌, IfOk, List, OnErr, codes, length};
 ghost use Rattle.rp_base.specs.declared.exceptions.ExcKind.TheVariants as kind;
-ghost use Rattle.rp_base.specs.declared.plain.Plain.TheVariants as plain;
 ghost use Rattle.side_trees.specs.Trees.{Return};
 ghost use Rattle.eval_frames.specs.declared.frame.Frame.{Frame};
-ghost use Rattle.eval_frames.specs.Meaning.{IsLight, Means};
+ghost use Rattle.eval_frames.specs.Meaning.{IsLight, Means, MeansOver};
 ghost use Rattle.language_rules.specs.AtOnce.{Comes, stated};
-ghost use Rattle.language_rules.specs.Draining.{unpacks};
-ghost use Rattle.language_rules.specs.Going.{done, fails, raised};
+ghost use Rattle.language_rules.specs.Draining.{unpacks, unpacks_kind};
+ghost use Rattle.language_rules.specs.Going.{RuleTree, done, fails};
 ghost use Rattle.language_rules.specs.Names.{binds_name};
 ghost use Rattle.language_rules.specs.States.{State};
 ghost use Rattle.language_rules.specs.Targets.{assigns, assigns_each, assigns_place};
 ghost use Rattle.language_rules.specs.Texts.{on_target};
 ghost use Rattle.eval_names.specs.Bound.{as_done};
-ghost use Rattle.eval_stmts.specs.Changing.{MeansOver};
 
+use crate::exceptions::refuse;
+use crate::kinds::kind_of_value;
 use builtin_functions::items_at_hand;
 use eval_frames::{Next, answered, node_at};
 use eval_names::bind_name;
 use object_operations::{Completion, Env};
 use py_ast::{Node, Program, Target};
 use py_store::Store;
-use rp_base::{Beyond, ExcKind, NoMemory, OpEnd, Plain, Raised, Text, Value};
-use sqlite_items::Items;
+use rp_base::{Beyond, ExcKind, Kind, NoMemory, OpEnd, Plain, Text, Value};
 use std::alloc::Global;
 
 /// The name stands for the value from now on.
@@ -72,7 +71,7 @@ pub(crate) fn assign(
     }
 }
 
-/// The items of the value go to the targets, from the left. That its items are not at hand is not built yet.
+/// The items of the value go to the targets, from the left. Lists are not gone over yet.
 fn unpack(
     alloc: Global,
     store: &mut Store,
@@ -85,30 +84,33 @@ fn unpack(
     ensures light { IfOk result (λ next. (stack : List Frame) → IsLight stack next stack) }
 {
     let Some(items) = items_at_hand(alloc, value)? else {
-        return Err(NoMemory);
+        return unpack_by_kind(alloc, kind_of_value(store, value));
     };
     if items.len() == targets.len() {
         assign_items(alloc, store, texts, env, targets, items.as_slice())
     } else {
-        refuse(alloc)
+        refuse_count(alloc)
     }
 }
 
 /// There are not as many items as targets.
-fn refuse(alloc: Global) -> Result<Next, NoMemory>
+fn refuse_count(alloc: Global) -> Result<Next, NoMemory>
     ensures means { IfOk result (λ next. (stack : List Frame) → Means stack next (fails kind.ValueError (codes "wrong number of values")) stack) }
     ensures light { IfOk result (λ next. (stack : List Frame) → IsLight stack next stack) }
 {
-    let raised = exception(alloc, ExcKind::ValueError, "wrong number of values")?;
-    Ok(Next::Give(Completion::Raises(raised)))
+    refuse(alloc, ExcKind::ValueError, "wrong number of values")
 }
 
-fn exception(alloc: Global, kind: ExcKind, text: &str) -> Result<Raised, NoMemory>
-    ensures { IfOk result (λ r. r ≡ raised kind (plain.Text text.now ∷ [])) }
+/// An object of this kind is unpacked, or what is none. Lists are not gone over yet.
+fn unpack_by_kind(alloc: Global, kind: Option<Kind>) -> Result<Next, NoMemory>
+    ensures means { IfOk result (λ next. (over : RuleTree) (stack : List Frame) → Means stack next (unpacks_kind over kind) stack) }
+    ensures light { IfOk result (λ next. (stack : List Frame) → IsLight stack next stack) }
 {
-    let mut args = Items::new(alloc);
-    args.push(Plain::Text(Text::from_str(alloc, text)?))?;
-    Ok(Raised { kind, args })
+    match kind {
+        Some(Kind::List) => Err(NoMemory),
+        Some(_) => Ok(Next::Leave(Beyond::Drain)),
+        None => refuse(alloc, ExcKind::TypeError, "not iterable"),
+    }
 }
 
 /// The values go to the targets of these numbers, from the left. That a target is an attribute or an item is not built

@@ -1,28 +1,25 @@
-ghost use Rattle.std.specs.Prelude.{Err, IfOk, List, Result};
-ghost use Rattle.rp_base.specs.declared.plain.Plain.{Plain};
-ghost use Rattle.rp_base.specs.declared.value.Value.{Value};
-ghost use Rattle.py_plain.specs.Answers.{OrNoMemory};
-ghost use Rattle.py_plain.specs.declared.ends.PlainEnd.{PlainEnd};
+ghost use Rattle.std.specs.Prelude.{◌≡◌, ◌∷◌, [], IfOk};
+ghost use Rattle.object_operations.specs.declared.operation.Operation.TheVariants as operation;
 ghost use Rattle.side_trees.specs.Trees.{Return, bind};
-ghost use Rattle.eval_frames.specs.declared.frame.Frame.{Frame};
-ghost use Rattle.eval_frames.specs.Meaning.{IsLight, Means, MeansIn};
-ghost use Rattle.language_rules.specs.Answers.{answers};
+ghost use Rattle.eval_frames.specs.Meaning.{IsLight, Means, MeansIn, MeansOver};
+ghost use Rattle.language_rules.specs.Answers.{asked};
 ghost use Rattle.language_rules.specs.AtOnce.{stated};
-ghost use Rattle.language_rules.specs.Going.{RuleTree, done, on_value};
+ghost use Rattle.language_rules.specs.Going.{done, on_value};
 ghost use Rattle.language_rules.specs.Names.{binds_name, reads_name};
 ghost use Rattle.language_rules.specs.Operators.{augmented_rule};
 ghost use Rattle.language_rules.specs.States.{State};
 ghost use Rattle.language_rules.specs.Targets.{augmented_assignment_rule, augments};
-ghost use Rattle.eval_stmts.specs.Changing.{MeansOver};
 
 use crate::assigning::bind_value;
-use eval_frames::{Frame, Next, StatementFrame, answered, enter_over, node_at};
+use crate::kinds::kind_of_value;
+use crate::operands::{Outcome, augmented};
+use eval_frames::{Frame, Next, StatementFrame, answered, enter_over, node_at, operate_over};
 use eval_names::read_name;
-use object_operations::{Completion, Env};
+use object_operations::{Env, Operation, Special};
 use py_ast::{Node, Program, Target};
-use py_plain::{PlainEnd, plain_binary};
 use py_store::Store;
 use rp_base::{Beyond, BinaryOp, NoMemory, Text, Value};
+use sqlite_items::Items;
 use std::alloc::Global;
 
 /// An augmented assignment begins with the value that its target has. That the target is an attribute or an item is not
@@ -78,38 +75,59 @@ fn augment_name(
     }
 }
 
-/// What the operator makes of the old value and the right side is bound to the name. That one of them is no plain value
-/// is not built yet.
+/// What the operator makes of the old value and the right side is bound to the name.
 pub(crate) fn bind_augmented(
     alloc: Global,
+    stack: &mut Vec<Frame>,
     store: &mut Store,
     texts: &[Program],
     env: Env,
     op: BinaryOp,
     name: Text,
-    old: &Value,
-    right: &Value,
+    old: Value,
+    right: Value,
 ) -> Result<Next, NoMemory>
-    ensures means { IfOk result (λ next. (fixed : State) (stack : List Frame) → MeansOver (stated fixed store.old.cells texts.now) (stated fixed store.new.cells texts.now) stack next (bind (augmented_rule op old.now right.now) (on_value (λ w. binds_name env name w (Return done)))) stack) }
-    ensures light { IfOk result (λ next. (stack : List Frame) → IsLight stack next stack) }
+    ensures means { IfOk result (λ next. (fixed : State) → MeansOver (stated fixed store.old.cells texts.now) (stated fixed store.new.cells texts.now) stack.new.items next (bind (augmented_rule op old right) (on_value (λ w. binds_name env name w (Return done)))) stack.old.items) }
+    ensures light { IfOk result (λ next. IsLight stack.new.items next stack.old.items) }
 {
-    let (Value::Plain(a), Value::Plain(b)) = (old, right) else {
-        return Err(NoMemory);
-    };
-    match plain_binary(alloc, op, a, b) {
-        Ok(made) => bind_value(alloc, store, texts, env, name, Value::Plain(made)),
-        Err(end) => end_operator(end),
+    let old_kind = kind_of_value(store, &old);
+    let right_kind = kind_of_value(store, &right);
+    match augmented(alloc, op, &old, old_kind, &right, right_kind) {
+        Ok(Outcome::Made(value)) => bind_value(alloc, store, texts, env, name, value),
+        Ok(Outcome::Asked(special)) => ask_operator(alloc, stack, env, name, old, special, right),
+        Err(end) => answered(Err(end)),
     }
 }
 
-/// The end of an operator that made no value goes to what waits.
-fn end_operator(end: PlainEnd) -> Result<Next, NoMemory>
-    ensures means { IfOk result (λ next. (wanted : Result Plain PlainEnd) (f : Value → RuleTree) (stack : List Frame) → OrNoMemory wanted (Err end) → Means stack next (bind (answers wanted) (on_value f)) stack) }
-    ensures light { IfOk result (λ next. (stack : List Frame) → IsLight stack next stack) }
+/// The operator is asked of the old value, and its answer goes to the name.
+fn ask_operator(
+    alloc: Global,
+    stack: &mut Vec<Frame>,
+    env: Env,
+    name: Text,
+    receiver: Value,
+    special: Special,
+    argument: Value,
+) -> Result<Next, NoMemory>
+    ensures means { IfOk result (λ next. Means stack.new.items next (bind (asked (operation.Special receiver special (argument ∷ []))) (on_value (λ w. binds_name env name w (Return done)))) stack.old.items) }
+    ensures light { IfOk result (λ next. IsLight stack.new.items next stack.old.items) }
 {
-    match end {
-        PlainEnd::Raise(raised) => Ok(Next::Give(Completion::Raises(raised))),
-        PlainEnd::Beyond(beyond) => Ok(Next::Leave(beyond)),
-        PlainEnd::NoMemory => Err(NoMemory),
-    }
+    let arguments = one_value(alloc, argument)?;
+    operate_over(
+        stack,
+        Frame::Statement(StatementFrame::BindName { env, name }),
+        Operation::Special {
+            receiver,
+            special,
+            arguments,
+        },
+    )
+}
+
+fn one_value(alloc: Global, value: Value) -> Result<Items<Value>, NoMemory>
+    ensures { IfOk result (λ values. values ≡ value ∷ []) }
+{
+    let mut values = Items::new(alloc);
+    values.push(value)?;
+    Ok(values)
 }

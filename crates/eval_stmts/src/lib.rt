@@ -4,7 +4,10 @@
 mod assigning;
 mod augmenting;
 mod branches;
+mod exceptions;
+mod kinds;
 mod loops;
+mod operands;
 mod steps;
 mod suites;
 

@@ -1,11 +1,10 @@
 ghost use Rattle.std.specs.Prelude.{IfOk};
-ghost use Rattle.eval_frames.specs.Meaning.{IsLight, MeansIn, through_statement};
+ghost use Rattle.eval_frames.specs.Meaning.{IsLight, MeansIn, MeansOver, through_statement};
 ghost use Rattle.language_rules.specs.AtOnce.{stated};
 ghost use Rattle.language_rules.specs.States.{State};
 ghost use Rattle.language_rules.specs.Statements.{statement_rule};
-ghost use Rattle.eval_stmts.specs.Changing.{MeansOver};
 
-use crate::assigning::assign;
+use crate::assigning::{assign, bind_value};
 use crate::augmenting::{begin_augmented, bind_augmented};
 use crate::branches::begin_if;
 use crate::loops::begin_while;
@@ -17,8 +16,8 @@ use py_store::Store;
 use rp_base::{Beyond, NoMemory, Plain, Value};
 use std::alloc::Global;
 
-/// A statement begins, behind its unit. These are not built yet: `return` with a value, `del`, `raise`, `for`, `try`,
-/// `def`, `class`, and an augmented assignment to an attribute or an item.
+/// A statement begins, behind its unit. `def`, `try` and `raise` begin in crates of their own. These are not built yet:
+/// `del`, `for`, `class`, and an augmented assignment to an attribute or an item.
 pub fn begin_statement(
     alloc: Global,
     stack: &mut Vec<Frame>,
@@ -52,6 +51,12 @@ pub fn begin_statement(
         Statement::Break => Ok(Next::Give(Completion::Breaks)),
         Statement::Continue => Ok(Next::Give(Completion::Continues)),
         Statement::Return(None) => Ok(Next::Give(Completion::Returns(Value::Plain(Plain::None)))),
+        Statement::Return(Some(number)) => enter_over(
+            stack,
+            Frame::Statement(StatementFrame::Return),
+            env,
+            number,
+        ),
         Statement::Global(_) => Ok(Next::Give(Completion::Gives(Value::Plain(Plain::None)))),
         Statement::Nonlocal(_) => Ok(Next::Give(Completion::Gives(Value::Plain(Plain::None)))),
         Statement::If {
@@ -67,8 +72,7 @@ pub fn begin_statement(
 }
 
 /// A statement goes on with the value that it waited for. These are not built yet: that a value goes to an attribute or
-/// an item, that the items of a value are not at hand, and that an augmented assignment has an operand that is no plain
-/// value.
+/// an item, and that a list is unpacked.
 pub fn give_statement(
     alloc: Global,
     stack: &mut Vec<Frame>,
@@ -85,7 +89,9 @@ pub fn give_statement(
         StatementFrame::Suite { env, waiting } => execute_further(stack, env, waiting),
         StatementFrame::Assign { env, target } => assign(alloc, store, texts, env, target, value),
         StatementFrame::AugmentName { env, op, name, old } => {
-            bind_augmented(alloc, store, texts, env, op, name, &old, &value)
+            bind_augmented(alloc, stack, store, texts, env, op, name, old, value)
         }
+        StatementFrame::BindName { env, name } => bind_value(alloc, store, texts, env, name, value),
+        StatementFrame::Return => Ok(Next::Give(Completion::Returns(value))),
     }
 }

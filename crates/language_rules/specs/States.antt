@@ -1,23 +1,11 @@
 -- A side's own state: its cells, what it has printed, its texts, and what is under way.
 use Rattle.std.specs.Prelude.{ℕ, zero, suc, ◌-◌, Bool, List, [], ◌∷◌, ◌++◌, length, slice_get, slice_set, Option, None}
-use Rattle.rp_base.specs.declared.exceptions.Raised.{Raised}
 use Rattle.py_ast.specs.declared.program.Program.{Program}
 use Rattle.py_store.specs.declared.cell.Cell.{Cell}
 use Rattle.host_api.specs.Modules.{Module}
-
--- An exception that code of a text and a scope is handling. name: what `as` calls it, where it does. bound: whether that name still stands for it.
-pub record Handling : Type 0 where
-  pub text : ℕ
-  pub scope : ℕ
-  pub name : Option (List ℕ)
-  pub raised : Raised
-  pub bound : Bool
-
--- A class that a class statement made: the text, the name and the cell.
-pub record MadeClass : Type 0 where
-  pub text : ℕ
-  pub name : List ℕ
-  pub number : ℕ
+-- An exception that code of a text and a scope is handling, and a class that a class statement made.
+pub use Rattle.object_operations.specs.declared.under_way.Handling.{Handling}
+pub use Rattle.object_operations.specs.declared.under_way.MadeClass.{MadeClass}
 
 -- cells: cell n is the n-th. printed: the number of bytes printed. texts: in the order in which they were begun, numbered from 0.
 -- handled: the exceptions being handled, innermost first. classes: what class statements made, the newest first. printing: the lists and dicts whose printing is under way, innermost first. modules: as handed in, with their states.

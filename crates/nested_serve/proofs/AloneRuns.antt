@@ -1,20 +1,18 @@
 -- The run of a script alone, by that of its side.
-use Rattle.std.proofs.Common.{◌≡◌, ◌+◌, ◌-◌, ◌≤◌, ℕ, [], refl, sym, subst, ◌∙◌, ap, arith}
+use Rattle.std.proofs.Common.{◌≡◌, ◌+◌, ◌-◌, ◌≤◌, ℕ, [], sym, subst, ◌∙◌, ap, arith}
 use Rattle.py_ast.specs.declared.program.Program.{Program}
-use Rattle.side_trees.specs.SharedRun.{A}
 use Rattle.side_trees.specs.Trees.{Done, Stopped, NoFuel}
 use Rattle.language_rules.proofs.AloneLaw.{script_alone}
-use Rattle.language_rules.specs.OneInterpreter.{ScriptCourse, output, run_end, solo_course, units_left}
-use Rattle.language_rules.specs.Running.{IsRunOfOne, ScriptEnd, runs}
-use Rattle.language_rules.specs.Starting.{Reader, first_state, text_of}
-use Rattle.nested_serve.specs.declared.alone.AloneEnd.{AloneEnd}
+use Rattle.language_rules.specs.OneInterpreter.{ScriptCourse, solo_course, units_left}
+use Rattle.language_rules.specs.Running.{IsRunOfOne, ScriptEnd}
+use Rattle.language_rules.specs.Starting.{first_state}
 use Rattle.nested_serve.specs.declared.alone.AloneRun.{AloneRun}
 use Rattle.nested_serve.specs.declared.machine.Halt.{Halt}
 use Rattle.nested_serve.specs.declared.machine.Halt.TheVariants as halt
 use Rattle.nested_serve.specs.declared.machine.Machine.{Machine}
 use Rattle.eval_frames.specs.declared.next.Next.{Next}
 use Rattle.language_rules.specs.States.{State}
-use Rattle.nested_serve.specs.Alone.{IsEndOf, IsRunAlone, IsRunOf, end_of_run}
+use Rattle.nested_serve.specs.Alone.{IsEndOf, IsRunAlone, IsRunOf}
 use Rattle.nested_serve.specs.Machines.{Begins, Ends, Halts, course, printed_by, state_in}
 
 spent : (fuel left here : ℕ) → left ≤ fuel → here ≡ left → fuel ≡ here + (fuel - left)

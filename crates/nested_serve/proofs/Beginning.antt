@@ -6,28 +6,25 @@ use Rattle.py_ast.specs.declared.program.Program.{Program}
 use Rattle.py_ast.specs.declared.statement.Statement.TheVariants as statement
 use Rattle.py_store.specs.declared.cell.Cell.{Cell}
 use Rattle.side_trees.proofs.BindLaw.{bind-return}
-use Rattle.side_trees.specs.Trees.{Return, bind}
-use Rattle.language_rules.specs.AtOnce.{stated}
 use Rattle.language_rules.specs.Functions.{runs_body, runs_node}
 use Rattle.language_rules.specs.Going.{RuleTree, executes_all}
-use Rattle.language_rules.specs.Programs.{reserves, top_of}
-use Rattle.language_rules.specs.Running.{ScriptEnd, runs}
-use Rattle.language_rules.specs.Starting.{Reader, first_cells, first_state, text_of}
-use Rattle.language_rules.specs.States.{State}
+use Rattle.language_rules.specs.Programs.{top_of}
+use Rattle.language_rules.specs.Running.{runs}
+use Rattle.language_rules.specs.Starting.{Reader, first_state, text_of}
+use Rattle.language_rules.specs.States.{Handling, State}
 use Rattle.eval_frames.specs.declared.frame.Frame.{Frame}
 use Rattle.eval_frames.specs.declared.next.Next.{Next}
-use Rattle.eval_frames.specs.Meaning.{Means, meant}
+use Rattle.eval_frames.specs.Meaning.{Means, meant, situated}
 use Rattle.nested_serve.specs.declared.machine.Machine.{Machine}
-use Rattle.nested_serve.specs.Machines.{Begins, IsScriptOf, course, printed_by, state_in}
+use Rattle.nested_serve.specs.Machines.{Begins, IsFirst, IsScriptOf, course, first_cells_of, printed_by}
 
--- the state of a side that has taken a text
+-- the state of a side that has taken a text and reserved the names of its handlers
 abbrev started : Reader → Program → State
-started reader program = stated (first_state reader []) (first_cells []) (program ∷ [])
+started reader program = situated (first_state reader []) (first_cells_of program.handler_names) (program ∷ []) []
 
 -- the names of handlers are reserved, and the body runs
-reserved : (reader : Reader) (program : Program) (units : ℕ) (names : List (List ℕ)) → names ≡ []
-    → runs units (reserves names (runs_body (top_of 0) program.root)) (started reader program) [] ≡ runs units (runs_body (top_of 0) program.root) (started reader program) []
-reserved reader program units names e = subst (λ (ns : List (List ℕ)). runs units (reserves ns (runs_body (top_of 0) program.root)) (started reader program) [] ≡ runs units (runs_body (top_of 0) program.root) (started reader program) []) (sym e) refl
+reserved : (reader : Reader) (program : Program) (units : ℕ) → runs units (text_of program) (first_state reader []) [] ≡ runs units (runs_body (top_of 0) program.root) (started reader program) []
+reserved reader program units = refl
 
 -- the body is the statements in turn
 body : (reader : Reader) (program : Program) (units : ℕ) (ns : List ℕ) → slice_get program.nodes program.root ≡ Some (node.Statement (statement.Suite ns))
@@ -43,17 +40,25 @@ stands reader program units ns fs n h =
 
 -- in the machine's own words
 in_machine : (reader : Reader) (program : Program) (units : ℕ) (m : Machine) (n : Next)
-    → m.store.cells ≡ first_cells [] → m.texts.items ≡ program ∷ [] → printed_by m ≡ []
+    → m.store.cells ≡ first_cells_of program.handler_names → m.texts.items ≡ program ∷ [] → m.handled ≡ [] → printed_by m ≡ []
     → runs units (meant m.stack.items n) (started reader program) [] ≡ course (first_state reader []) m n units
-in_machine reader program units m n c t p =
-    ap (λ (cells : List Cell). runs units (meant m.stack.items n) (stated (first_state reader []) cells (program ∷ [])) []) (sym c)
-    ∙ ap (λ (texts : List Program). runs units (meant m.stack.items n) (stated (first_state reader []) m.store.cells texts) []) (sym t)
-    ∙ ap (λ (out : List ℕ). runs units (meant m.stack.items n) (record (stated (first_state reader []) m.store.cells m.texts.items) { printed = length out }) out) (sym p)
+in_machine reader program units m n c t h p =
+    ap (λ (cells : List Cell). runs units (meant m.stack.items n) (situated (first_state reader []) cells (program ∷ []) []) []) (sym c)
+    ∙ ap (λ (texts : List Program). runs units (meant m.stack.items n) (situated (first_state reader []) m.store.cells texts []) []) (sym t)
+    ∙ ap (λ (handled : List Handling). runs units (meant m.stack.items n) (situated (first_state reader []) m.store.cells m.texts.items handled) []) (sym h)
+    ∙ ap (λ (out : List ℕ). runs units (meant m.stack.items n) (record (situated (first_state reader []) m.store.cells m.texts.items m.handled) { printed = length out }) out) (sym p)
 
 pub begins : (program : Program) (ns : List ℕ) (m : Machine) (n : Next) → IsScriptOf program ns
-    → m.store.cells ≡ first_cells [] → m.texts.items ≡ program ∷ [] → printed_by m ≡ [] → Means m.stack.items n (executes_all (top_of 0) ns) [] → Begins program m n
-begins program ns m n is c t p h reader units =
-    reserved reader program units program.handler_names is.0
-    ∙ body reader program units ns is.1
-    ∙ stands reader program units ns m.stack.items n h
-    ∙ in_machine reader program units m n c t p
+    → m.store.cells ≡ first_cells_of program.handler_names → m.texts.items ≡ program ∷ [] → m.handled ≡ [] → printed_by m ≡ [] → Means m.stack.items n (executes_all (top_of 0) ns) [] → Begins program m n
+begins program ns m n is c t h p does reader units =
+    reserved reader program units
+    ∙ body reader program units ns is
+    ∙ stands reader program units ns m.stack.items n does
+    ∙ in_machine reader program units m n c t h p
+
+-- a first machine on whose stack the statements were put
+pub begins_first : (program : Program) (ns : List ℕ) (m m' : Machine) (n : Next) → IsScriptOf program ns → IsFirst program m
+    → m'.store.cells ≡ m.store.cells → m'.texts.items ≡ m.texts.items → m'.handled ≡ m.handled → printed_by m' ≡ printed_by m → Means m'.stack.items n (executes_all (top_of 0) ns) m.stack.items → Begins program m' n
+begins_first program ns m m' n is first c t h p does =
+    begins program ns m' n is (c ∙ first.cells) (t ∙ first.texts) (h ∙ first.handled) (p ∙ first.printed)
+    (subst (λ (before : List Frame). Means m'.stack.items n (executes_all (top_of 0) ns) before) first.idle does)

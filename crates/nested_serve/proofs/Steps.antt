@@ -1,34 +1,29 @@
 -- The steps of a machine, by those of its parts.
-use Rattle.std.proofs.Common.{◌≡◌, ◌+◌, ◌*◌, ◌≤◌, arith, ℕ, Bool, List, length, reverse, slice_get, Option, Some, Result, Ok, Err, IfOk, refl, sym, subst, ◌∙◌, ap}
+use Rattle.std.proofs.Common.{◌≡◌, ◌+◌, ◌*◌, ◌≤◌, arith, ℕ, suc, Bool, List, length, reverse, slice_get, Option, Result, Ok, Err, IfOk, sym, subst, ◌∙◌, ap}
 use Rattle.rp_base.specs.declared.ends.NoMemory.{NoMemory}
 use Rattle.rp_base.specs.declared.value.Value.{Value}
-use Rattle.py_ast.specs.declared.expression.Expression.{Expression}
 use Rattle.py_ast.specs.declared.node.Node.{Node}
-use Rattle.py_ast.specs.declared.node.Node.TheVariants as node
 use Rattle.py_ast.specs.declared.program.Program.{Program}
 use Rattle.py_ast.specs.declared.statement.Statement.{Statement}
 use Rattle.py_store.specs.declared.cell.Cell.{Cell}
+use Rattle.object_operations.specs.declared.operation.Operation.{Operation}
 use Rattle.side_trees.specs.Trees.{Return, bind}
 use Rattle.language_rules.specs.AtOnce.{stated}
 use Rattle.language_rules.specs.Codes.{Completion, Env, Gives}
-use Rattle.language_rules.specs.Expressions.{expression_rule}
 use Rattle.language_rules.specs.Going.{RuleTree, on_value}
 use Rattle.language_rules.specs.Nodes.{node_rule, rule_of}
-use Rattle.language_rules.specs.Output.{prints}
+use Rattle.language_rules.specs.Perform.{perform}
 use Rattle.language_rules.specs.Running.{runs}
-use Rattle.language_rules.specs.States.{State}
+use Rattle.language_rules.specs.States.{Handling, State}
 use Rattle.language_rules.specs.Statements.{statement_rule}
 use Rattle.language_rules.specs.Texts.{node_of}
-use Rattle.language_rules.specs.Truth.{on_truth}
 use Rattle.eval_frames.specs.declared.frame.Decision.{Decision}
-use Rattle.eval_frames.specs.declared.frame.ExpressionFrame.{ExpressionFrame}
 use Rattle.eval_frames.specs.declared.frame.Frame.{Frame}
-use Rattle.eval_frames.specs.declared.frame.Frame.TheVariants as frame
-use Rattle.eval_frames.specs.declared.frame.StatementFrame.{StatementFrame}
 use Rattle.eval_frames.specs.declared.next.Next.{Next}
 use Rattle.eval_frames.specs.declared.next.Next.TheVariants as next
-use Rattle.eval_frames.specs.Meaning.{Means, MeansIn, decides, load, meant, resume, rest, through_expression, through_statement}
-use Rattle.eval_stmts.specs.Changing.{MeansOver}
+use Rattle.eval_frames.specs.Meaning.{IsLight, Means, MeansIn, MeansOver, decides, handling_in, load, meant, resume, rest, situated}
+use Rattle.nested_serve.specs.declared.machine.Machine.{Machine}
+use Rattle.nested_serve.specs.Machines.{GoesOn, ahead, course}
 use Rattle.print_output.specs.Printed.{counted}
 
 -- ---- decisions
@@ -44,21 +39,96 @@ decided (Err e) now before texts d as_told v holds p h = tt
 -- ---- a machine's state, as its parts see it
 
 -- what a side has counted as printed
-abbrev pub printing : State → List Cell → List Program → List ℕ → State
-printing fixed cells texts printed = record (stated fixed cells texts) { printed = length printed }
+abbrev pub printing : State → List Cell → List Program → List Handling → List ℕ → State
+printing fixed cells texts handled printed = record (situated fixed cells texts handled) { printed = length printed }
 
 -- a computation over the machine's state before, and what comes next over that after
-abbrev pub Went : List Frame → List Cell → List Program → List ℕ → RuleTree → List Frame → List Cell → List ℕ → Next → Type 0
-Went before cells texts printed t now cells' printed' n = (fixed : State) (units : ℕ)
-    → runs units (bind t (rest (reverse before))) (printing fixed cells texts printed) printed ≡ runs units (meant now n) (printing fixed cells' texts printed') printed'
+abbrev pub Went : List Frame → List Cell → List Program → List Handling → List ℕ → RuleTree → List Frame → List Cell → List Handling → List ℕ → Next → Type 0
+Went before cells texts handled printed t now cells' handled' printed' n = (fixed : State) (units : ℕ)
+    → runs units (bind t (rest (reverse before))) (printing fixed cells texts handled printed) printed ≡ runs units (meant now n) (printing fixed cells' texts handled' printed') printed'
 
 -- the texts by another name
-pub lent : (r : Result Next NoMemory) (before now : List Frame) (cells cells' : List Cell) (texts as_lent : List Program) (printed : List ℕ) (t : RuleTree) → as_lent ≡ texts
-    → IfOk r (λ n. (fixed : State) → MeansOver (stated fixed cells as_lent) (stated fixed cells' as_lent) now n t before) → IfOk r (λ n. Went before cells texts printed t now cells' printed n)
-lent (Ok n) before now cells cells' texts as_lent printed t p h = λ fixed units.
+pub lent : (r : Result Next NoMemory) (before now : List Frame) (cells cells' : List Cell) (texts as_lent : List Program) (handled : List Handling) (printed : List ℕ) (t : RuleTree) → as_lent ≡ texts
+    → IfOk r (λ n. (fixed : State) → MeansOver (stated fixed cells as_lent) (stated fixed cells' as_lent) now n t before) → IfOk r (λ n. Went before cells texts handled printed t now cells' handled printed n)
+lent (Ok n) before now cells cells' texts as_lent handled printed t p h = λ fixed units.
     let k : (s : State) → MeansOver (stated s cells texts) (stated s cells' texts) now n t before = subst (λ (ts : List Program). (s : State) → MeansOver (stated s cells ts) (stated s cells' ts) now n t before) p h in
-    k (record fixed { printed = length printed }) units printed
-lent (Err e) before now cells cells' texts as_lent printed t p h = tt
+    k (record fixed { printed = length printed; handled = reverse handled }) units printed
+lent (Err e) before now cells cells' texts as_lent handled printed t p h = tt
+
+-- the texts and the exceptions by other names
+pub lent_both : (r : Result Next NoMemory) (before now : List Frame) (cells cells' : List Cell) (texts as_lent : List Program) (handled as_handled : List Handling) (printed : List ℕ) (t : RuleTree) → as_lent ≡ texts → as_handled ≡ handled
+    → IfOk r (λ n. (fixed : State) → MeansOver (situated fixed cells as_lent as_handled) (situated fixed cells' as_lent as_handled) now n t before) → IfOk r (λ n. Went before cells texts handled printed t now cells' handled printed n)
+lent_both (Ok n) before now cells cells' texts as_lent handled as_handled printed t p q h = λ fixed units.
+    let k : (s : State) → MeansOver (situated s cells texts as_handled) (situated s cells' texts as_handled) now n t before = subst (λ (ts : List Program). (s : State) → MeansOver (situated s cells ts as_handled) (situated s cells' ts as_handled) now n t before) p h in
+    let l : (s : State) → MeansOver (situated s cells texts handled) (situated s cells' texts handled) now n t before = subst (λ (hs : List Handling). (s : State) → MeansOver (situated s cells texts hs) (situated s cells' texts hs) now n t before) q k in
+    l (record fixed { printed = length printed }) units printed
+lent_both (Err e) before now cells cells' texts as_lent handled as_handled printed t p q h = tt
+
+-- what changes the exceptions that are being handled, with the texts by another name
+pub lent_handled : (r : Result Next NoMemory) (before now : List Frame) (cells : List Cell) (texts as_lent : List Program) (handled handled' : List Handling) (printed : List ℕ) (t : RuleTree) → as_lent ≡ texts
+    → IfOk r (λ n. (fixed : State) → MeansOver (handling_in fixed as_lent handled) (handling_in fixed as_lent handled') now n t before) → IfOk r (λ n. Went before cells texts handled printed t now cells handled' printed n)
+lent_handled (Ok n) before now cells texts as_lent handled handled' printed t p h = λ fixed units.
+    let k : (s : State) → MeansOver (handling_in s texts handled) (handling_in s texts handled') now n t before = subst (λ (ts : List Program). (s : State) → MeansOver (handling_in s ts handled) (handling_in s ts handled') now n t before) p h in
+    k (record fixed { cells = cells; printed = length printed }) units printed
+lent_handled (Err e) before now cells texts as_lent handled handled' printed t p h = tt
+
+-- an operation by what it is
+pub at_operation : (r : Result Next NoMemory) (before now : List Frame) (cells cells' : List Cell) (texts : List Program) (handled handled' : List Handling) (printed printed' : List ℕ) (o as_told : Operation) → o ≡ as_told
+    → IfOk r (λ n. Went before cells texts handled printed (perform as_told) now cells' handled' printed' n) → IfOk r (λ n. Went before cells texts handled printed (perform o) now cells' handled' printed' n)
+at_operation r before now cells cells' texts handled handled' printed printed' o as_told p h =
+    subst (λ (x : Operation). IfOk r (λ n. Went before cells texts handled printed (perform x) now cells' handled' printed' n)) (sym p) h
+
+-- an operation behind its unit
+pub performs : (m m' : Machine) (o : Operation) (n : Next) (units left : ℕ) → units ≡ suc left → GoesOn m (perform o) m' n → IsLight m'.stack.items n m.stack.items
+    → ((fixed : State) → course fixed m (next.Perform o) units ≡ course fixed m' n left) × (ahead m' n left + 1 ≤ ahead m (next.Perform o) units)
+performs m m' o n units left e goes light =
+    subst (λ (u : ℕ). ((fixed : State) → course fixed m (next.Perform o) u ≡ course fixed m' n left) × (ahead m' n left + 1 ≤ ahead m (next.Perform o) u)) (sym e)
+    ((λ fixed. goes fixed left), omega (arith, light))
+
+-- ---- statements
+
+-- a step that looks at no exception that is being handled
+pub as_situated : (r : Result Next NoMemory) (before now : List Frame) (cells cells' : List Cell) (texts : List Program) (handled : List Handling) (t : RuleTree)
+    → IfOk r (λ n. (fixed : State) → MeansOver (stated fixed cells texts) (stated fixed cells' texts) now n t before) → IfOk r (λ n. (fixed : State) → MeansOver (situated fixed cells texts handled) (situated fixed cells' texts handled) now n t before)
+as_situated (Ok n) before now cells cells' texts handled t h = λ fixed. h (record fixed { handled = reverse handled })
+as_situated (Err e) before now cells cells' texts handled t h = tt
+
+-- a step that looks at no cell
+pub over_cells : (r : Result Next NoMemory) (before now : List Frame) (cells : List Cell) (texts : List Program) (handled : List Handling) (t : RuleTree)
+    → IfOk r (λ n. (fixed : State) → MeansOver (handling_in fixed texts handled) (handling_in fixed texts handled) now n t before) → IfOk r (λ n. (fixed : State) → MeansOver (situated fixed cells texts handled) (situated fixed cells texts handled) now n t before)
+over_cells (Ok n) before now cells texts handled t h = λ fixed. h (record fixed { cells = cells })
+over_cells (Err e) before now cells texts handled t h = tt
+
+-- a step that looks at nothing
+pub anywhere : (r : Result Next NoMemory) (before now : List Frame) (cells : List Cell) (texts : List Program) (handled : List Handling) (t : RuleTree)
+    → IfOk r (λ n. Means now n t before) → IfOk r (λ n. (fixed : State) → MeansOver (situated fixed cells texts handled) (situated fixed cells texts handled) now n t before)
+anywhere (Ok n) before now cells texts handled t h = λ fixed units printed. ap (λ (x : RuleTree). runs units x (situated fixed cells texts handled) printed) (sym h)
+anywhere (Err e) before now cells texts handled t h = tt
+
+-- a step that changes no stack
+pub at_stack : (r : Result Next NoMemory) (stack : List Frame) (cells cells' : List Cell) (texts : List Program) (t : RuleTree)
+    → IfOk r (λ n. (fixed : State) (fs : List Frame) → MeansOver (stated fixed cells texts) (stated fixed cells' texts) fs n t fs) → IfOk r (λ n. (fixed : State) → MeansOver (stated fixed cells texts) (stated fixed cells' texts) stack n t stack)
+at_stack (Ok n) stack cells cells' texts t h = λ fixed. h fixed stack
+at_stack (Err e) stack cells cells' texts t h = tt
+
+-- a step that looks at the texts alone
+pub over_texts : (r : Result Next NoMemory) (before now : List Frame) (cells : List Cell) (texts : List Program) (handled : List Handling) (t : RuleTree)
+    → IfOk r (λ n. (fixed : State) (others : List Cell) → MeansIn (stated fixed others texts) now n t before) → IfOk r (λ n. (fixed : State) → MeansOver (situated fixed cells texts handled) (situated fixed cells texts handled) now n t before)
+over_texts (Ok n) before now cells texts handled t h = λ fixed. h (record fixed { handled = reverse handled }) cells
+over_texts (Err e) before now cells texts handled t h = tt
+
+-- a step that looks at the exceptions alone, and changes no stack
+pub raised_over : (r : Result Next NoMemory) (stack : List Frame) (cells : List Cell) (texts : List Program) (handled : List Handling) (t : RuleTree)
+    → IfOk r (λ n. (fixed : State) (others : List Program) (fs : List Frame) → MeansIn (handling_in fixed others handled) fs n t fs) → IfOk r (λ n. (fixed : State) → MeansOver (situated fixed cells texts handled) (situated fixed cells texts handled) stack n t stack)
+raised_over (Ok n) stack cells texts handled t h = λ fixed. h (record fixed { cells = cells }) texts stack
+raised_over (Err e) stack cells texts handled t h = tt
+
+-- a statement by what it is
+pub at_statement : (r : Result Next NoMemory) (before now : List Frame) (cells cells' : List Cell) (texts : List Program) (handled : List Handling) (env : Env) (s as_told : Statement) → s ≡ as_told
+    → IfOk r (λ n. (fixed : State) → MeansOver (situated fixed cells texts handled) (situated fixed cells' texts handled) now n (statement_rule env as_told) before)
+    → IfOk r (λ n. (fixed : State) → MeansOver (situated fixed cells texts handled) (situated fixed cells' texts handled) now n (statement_rule env s) before)
+at_statement r before now cells cells' texts handled env s as_told p h =
+    subst (λ (x : Statement). IfOk r (λ n. (fixed : State) → MeansOver (situated fixed cells texts handled) (situated fixed cells' texts handled) now n (statement_rule env x) before)) (sym p) h
 
 -- ---- frames
 
@@ -77,6 +147,11 @@ pub given_over : (r : Result Next NoMemory) (now before : List Frame) (texts : L
     → IfOk r (λ n. (fixed : State) → MeansOver (stated fixed cells texts) (stated fixed cells' texts) now n (on_value f a) before)
 given_over r now before texts cells cells' f a v p h = subst (λ (b : Completion). IfOk r (λ n. (fixed : State) → MeansOver (stated fixed cells texts) (stated fixed cells' texts) now n (on_value f b) before)) (sym p) h
 
+pub given_cells : (r : Result Next NoMemory) (now before : List Frame) (cells : List Cell) (f : Value → RuleTree) (a : Completion) (v : Value) → a ≡ Gives v
+    → IfOk r (λ n. (fixed : State) (texts : List Program) → MeansIn (stated fixed cells texts) now n (f v) before)
+    → IfOk r (λ n. (fixed : State) (texts : List Program) → MeansIn (stated fixed cells texts) now n (on_value f a) before)
+given_cells r now before cells f a v p h = subst (λ (b : Completion). IfOk r (λ n. (fixed : State) (texts : List Program) → MeansIn (stated fixed cells texts) now n (on_value f b) before)) (sym p) h
+
 -- an end that passes
 pub passes : (before : List Frame) (t : RuleTree) (b : Completion) → t ≡ Return b → Means before (next.Give b) t before
 passes before t b e = ap (λ (x : RuleTree). bind x (rest (reverse before))) (sym e)
@@ -91,6 +166,13 @@ at_frame (Ok n) now before cells texts f as_told a p h = λ fixed units printed.
     ap (λ (x : Frame). runs units (bind (resume x a) (rest (reverse before))) (stated fixed cells texts) printed) p
     ∙ ap (λ (x : RuleTree). runs units x (stated fixed cells texts) printed) (sym h)
 at_frame (Err e) now before cells texts f as_told a p h = tt
+
+pub at_frame_cells : (r : Result Next NoMemory) (now before : List Frame) (cells : List Cell) (texts : List Program) (f as_told : Frame) (a : Completion) → f ≡ as_told
+    → IfOk r (λ n. (fixed : State) (others : List Program) → MeansIn (stated fixed cells others) now n (resume as_told a) before)
+    → IfOk r (λ n. (fixed : State) → MeansOver (stated fixed cells texts) (stated fixed cells texts) now n (resume f a) before)
+at_frame_cells (Ok n) now before cells texts f as_told a p h = λ fixed units printed.
+    ap (λ (x : Frame). runs units (bind (resume x a) (rest (reverse before))) (stated fixed cells texts) printed) p ∙ h fixed texts units printed
+at_frame_cells (Err e) now before cells texts f as_told a p h = tt
 
 pub at_frame_anywhere : (r : Result Next NoMemory) (now before : List Frame) (cells : List Cell) (texts : List Program) (f as_told : Frame) (a : Completion) → f ≡ as_told
     → IfOk r (λ n. (s : State) → MeansIn s now n (resume as_told a) before)
@@ -107,23 +189,23 @@ at_frame_over r now before cells cells' texts f as_told a p h = subst (λ (x : F
 -- ---- nodes
 
 -- a node by what it is
-pub at_node : (r : Result Next NoMemory) (now before : List Frame) (cells : List Cell) (texts : List Program) (env : Env) (number : ℕ) (o : Option Node)
+pub at_node : (r : Result Next NoMemory) (now before : List Frame) (cells cells' : List Cell) (texts : List Program) (handled : List Handling) (env : Env) (number : ℕ) (o : Option Node)
     → node_of (slice_get texts env.text) number ≡ o
-    → IfOk r (λ n. (fixed : State) → MeansIn (stated fixed cells texts) now n (rule_of env o) before)
-    → IfOk r (λ n. (fixed : State) → MeansIn (stated fixed cells texts) now n (node_rule env number) before)
-at_node (Ok n) now before cells texts env number o p h = λ fixed units printed.
-    ap (λ (x : Option Node). runs units (bind (rule_of env x) (rest (reverse before))) (stated fixed cells texts) printed) p ∙ h fixed units printed
-at_node (Err e) now before cells texts env number o p h = tt
+    → IfOk r (λ n. (fixed : State) → MeansOver (situated fixed cells texts handled) (situated fixed cells' texts handled) now n (rule_of env o) before)
+    → IfOk r (λ n. (fixed : State) → MeansOver (situated fixed cells texts handled) (situated fixed cells' texts handled) now n (node_rule env number) before)
+at_node (Ok n) now before cells cells' texts handled env number o p h = λ fixed units printed.
+    ap (λ (x : Option Node). runs units (bind (rule_of env x) (rest (reverse before))) (situated fixed cells texts handled) printed) p ∙ h fixed units printed
+at_node (Err e) now before cells cells' texts handled env number o p h = tt
 
 -- ---- printing
 
--- the values by another name
-pub printed_on : (before : List Frame) (cells : List Cell) (texts : List Program) (old new : List ℕ) (values as_lent : List Value) (n : Next) → as_lent ≡ values
-    → ((fixed : State) (units : ℕ) (stack : List Frame) → runs units (bind (prints as_lent) (rest (reverse stack))) (counted fixed old) old ≡ runs units (meant stack n) (counted fixed new) new)
-    → Went before cells texts old (prints values) before cells new n
-printed_on before cells texts old new values as_lent n p h fixed units =
-    ap (λ (vs : List Value). runs units (bind (prints vs) (rest (reverse before))) (printing fixed cells texts old) old) (sym p) ∙ h (stated fixed cells texts) units before
+-- what prints, in the machine's own words
+pub prints_over : (r : Result Next NoMemory) (before now : List Frame) (cells : List Cell) (texts : List Program) (handled : List Handling) (old new : List ℕ) (t : RuleTree)
+    → IfOk r (λ n. (fixed : State) (units : ℕ) → runs units (bind t (rest (reverse before))) (counted fixed old) old ≡ runs units (meant now n) (counted fixed new) new)
+    → IfOk r (λ n. Went before cells texts handled old t now cells handled new n)
+prints_over (Ok n) before now cells texts handled old new t h = λ fixed units. h (situated fixed cells texts handled) units
+prints_over (Err e) before now cells texts handled old new t h = tt
 
 -- what is printed is less to be done
-pub printed_less : (stack : List Frame) (n : Next) (units : ℕ) → load stack n ≤ 3 * length stack + 10 → (20 * units + load stack n) + 1 ≤ 20 * units + (3 * length stack + 11)
-printed_less stack n units h = omega (arith, h)
+pub printed_less : (before now : List Frame) (n : Next) (units : ℕ) → load now n ≤ 3 * length before + 10 → (20 * units + load now n) + 1 ≤ 20 * units + (3 * length before + 11)
+printed_less before now n units h = omega (arith, h)

@@ -1,18 +1,21 @@
 -- What a machine's steps do: no run tells a machine and what it does next from the one after a step.
-use Rattle.std.specs.Prelude.{◌≡◌, ◌+◌, ◌*◌, ◌≤◌, ℕ, [], List, Some, Result, Ok, Err, length, reverse, slice_get, string_bytes}
+use Rattle.std.specs.Prelude.{◌≡◌, ◌+◌, ◌*◌, ◌≤◌, ℕ, [], ◌∷◌, List, Option, Some, None, Result, Ok, Err, length, reverse, slice_get, string_bytes}
 use Rattle.rp_base.specs.declared.value.Value.{Value}
+use Rattle.py_ast.specs.declared.node.Node.{Node}
 use Rattle.py_ast.specs.declared.node.Node.TheVariants as node
 use Rattle.py_ast.specs.declared.program.Program.{Program}
 use Rattle.py_ast.specs.declared.statement.Statement.TheVariants as statement
+use Rattle.py_store.specs.declared.cell.Cell.{Cell}
+use Rattle.py_store.specs.declared.cell.Cell.TheVariants as cell
 use Rattle.side_trees.specs.Trees.{Return, Done, Stopped, NoFuel, bind}
-use Rattle.language_rules.specs.AtOnce.{stated}
 use Rattle.language_rules.specs.Codes.{Completion, Gives}
 use Rattle.language_rules.specs.Going.{RuleTree, on_value}
 use Rattle.language_rules.specs.Running.{ScriptEnd, runs}
+use Rattle.language_rules.specs.Programs.{with_names}
 use Rattle.language_rules.specs.Starting.{Reader, first_state, text_of}
 use Rattle.language_rules.specs.States.{State}
 use Rattle.eval_frames.specs.declared.next.Next.{Next}
-use Rattle.eval_frames.specs.Meaning.{load, meant, rest}
+use Rattle.eval_frames.specs.Meaning.{load, meant, rest, situated}
 use Rattle.nested_serve.specs.declared.machine.Halt.{Halt}
 use Rattle.nested_serve.specs.declared.machine.Halt.TheVariants as halt
 use Rattle.nested_serve.specs.declared.machine.Machine.{Machine}
@@ -25,7 +28,7 @@ printed_by m = string_bytes m.printed
 
 -- the state of the side, but for what the machine does not keep
 abbrev pub state_in : State → Machine → State
-state_in fixed m = record (stated fixed m.store.cells m.texts.items) { printed = length (printed_by m) }
+state_in fixed m = record (situated fixed m.store.cells m.texts.items m.handled) { printed = length (printed_by m) }
 
 -- the run of a computation over the machine's cells, texts and output
 abbrev pub runs_over : State → Machine → RuleTree → ℕ → ScriptEnd
@@ -68,10 +71,27 @@ Advances before n units (progress.Halted h) now left = Halts before n units h no
 
 -- ---- the beginning
 
--- the tree of a script with these statements, which has no names of handlers
+-- the tree of a script with these statements
 abbrev pub IsScriptOf : Program → List ℕ → Type 0
-IsScriptOf program statements = (program.handler_names ≡ []) × (slice_get program.nodes program.root ≡ Some (node.Statement (statement.Suite statements)))
+IsScriptOf program statements = slice_get program.nodes program.root ≡ Some (node.Statement (statement.Suite statements))
 
 -- a machine that begins a script, whatever texts would be read as
 abbrev pub Begins : Program → Machine → Next → Type 0
 Begins program m n = (reader : Reader) (units : ℕ) → runs units (text_of program) (first_state reader []) [] ≡ course (first_state reader []) m n units
+
+-- the statements of a suite, where there is one
+abbrev pub AreRoot : Option (List ℕ) → Option Node → Type 0
+AreRoot (Some statements) root = root ≡ Some (node.Statement (statement.Suite statements))
+AreRoot None root = Unit {0}
+
+-- the namespace, in which these names of handlers are reserved, and the root
+abbrev pub first_cells_of : List (List ℕ) → List Cell
+first_cells_of names = cell.Namespace [] (with_names names []) ∷ cell.Root ∷ []
+
+-- the first cells, this one text, nothing that waits or is being handled, and nothing printed
+pub record IsFirst (program : Program) (m : Machine) : Type 0 where
+  pub cells : m.store.cells ≡ first_cells_of program.handler_names
+  pub texts : m.texts.items ≡ program ∷ []
+  pub idle : m.stack.items ≡ []
+  pub handled : m.handled ≡ []
+  pub printed : printed_by m ≡ []

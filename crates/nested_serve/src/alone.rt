@@ -1,4 +1,4 @@
-ghost use Rattle.std.specs.Prelude.{◌≡◌, ◌≤◌, string_bytes};
+ghost use Rattle.std.specs.Prelude.{◌≡◌, ◌≤◌, IfOk, string_bytes};
 ghost use Rattle.py_ast.specs.declared.program.Program.{Program};
 ghost use Rattle.side_trees.specs.SharedRun.{A};
 ghost use Rattle.language_rules.specs.OneInterpreter.{EndsDone, end_of_script};
@@ -7,9 +7,13 @@ ghost use Rattle.nested_serve.specs.declared.machine.Machine.{Machine};
 ghost use Rattle.nested_serve.specs.Alone.{IsEndOf, IsRunAlone, end_of_run};
 ghost use Rattle.nested_serve.specs.Machines.{Begins, Halts, printed_by};
 
-use crate::machine::Halt;
+use crate::machine::{Halt, Machine};
+use crate::running::run;
+use crate::starting::begin;
 use object_operations::Completion;
-use rp_base::{Beyond, Raised, Text};
+use py_ast::Program;
+use rp_base::{Beyond, NoMemory, Raised, Text};
+use std::alloc::Global;
 
 /// How a script alone ended.
 #[derive(Drop)]
@@ -26,6 +30,17 @@ pub struct AloneRun {
     pub end: AloneEnd,
     pub printed: Text,
     pub units: u64,
+}
+
+/// Runs a script alone, within so many units.
+pub fn run_alone(alloc: Global, program: Program, fuel: u64) -> Result<AloneRun, NoMemory>
+    ensures { IfOk result (λ run. IsRunAlone program fuel run) }
+{
+    let (mut machine, first) = begin(alloc, program)?;
+    let mut left = fuel;
+    let halt = run(alloc, &mut machine, first, &mut left)?;
+    let Machine { printed, .. } = machine;
+    Ok(alone_run(halt, printed, fuel, left))
 }
 
 /// What the run of a machine that began a script came to, with the units that are left of those that it was given.

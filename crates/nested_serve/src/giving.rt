@@ -1,15 +1,16 @@
 ghost use Rattle.std.specs.Prelude.{IfOk, List};
 ghost use Rattle.py_store.specs.declared.cell.Cell.{Cell};
-ghost use Rattle.eval_frames.specs.Meaning.{IsLight, Means, MeansIn, decides, resume, through_expression, through_statement};
-ghost use Rattle.eval_stmts.specs.Changing.{MeansOver};
+ghost use Rattle.eval_frames.specs.Meaning.{IsLight, MeansIn, MeansOver, decides, resume, through_expression, through_statement};
 ghost use Rattle.language_rules.specs.AtOnce.{stated};
 ghost use Rattle.language_rules.specs.States.{State};
-ghost use Rattle.language_rules.specs.Truth.{on_truth};
+ghost use Rattle.language_rules.specs.Truth.{on_bool, on_truth};
 ghost use Rattle.language_rules.specs.Going.{on_value};
 ghost use Rattle.nested_serve.specs.Machines.{IsValueOf};
 
+use eval_calls::{empty_call, end_call};
 use eval_exprs::{
-    decide_and, decide_conditional, decide_link, decide_not, decide_or, give_expression,
+    ask_truth, decide_and, decide_bool, decide_conditional, decide_link, decide_not, decide_or,
+    give_comparison, give_expression, give_operation, told_truth,
 };
 use eval_frames::{Decision, ExpressionFrame, Frame, Next, StatementFrame};
 use eval_stmts::{decide_if, decide_while, end_turn, give_statement};
@@ -20,7 +21,7 @@ use rp_base::{NoMemory, OpEnd, Value};
 use std::alloc::Global;
 use value_operators::truth;
 
-/// What waits goes on with the end that it waits for. Answers of objects are not built yet.
+/// What waits goes on with the end that it waits for, but for handlers and what is printed.
 pub fn give(
     alloc: Global,
     stack: &mut Vec<Frame>,
@@ -34,8 +35,17 @@ pub fn give(
 {
     match frame {
         Frame::While { env, test, body } => end_turn(stack, env, test, body, completion),
-        Frame::Truth { .. } => Err(NoMemory),
-        Frame::Expression(frame) => give_to_expression(alloc, stack, frame, completion),
+        Frame::Truth { decision, value } => {
+            give_to_truth(alloc, stack, texts, decision, value, completion)
+        }
+        Frame::Call => Ok(end_call(completion)),
+        Frame::EmptiedCall { scope, parent } => {
+            empty_call(alloc, store, scope, parent, completion)
+        }
+        Frame::Operation(frame) => give_operation(alloc, frame, completion),
+        Frame::Comparison(frame) => give_comparison(alloc, stack, frame, completion),
+        Frame::Handler(_) | Frame::Printing(_) => Err(NoMemory),
+        Frame::Expression(frame) => give_to_expression(alloc, stack, store, frame, completion),
         Frame::Statement(frame) => {
             give_to_statement(alloc, stack, store, texts, frame, completion)
         }
@@ -46,14 +56,15 @@ pub fn give(
 fn give_to_expression(
     alloc: Global,
     stack: &mut Vec<Frame>,
+    store: &Store,
     frame: ExpressionFrame,
     completion: Completion,
 ) -> Result<Next, NoMemory>
-    ensures means { IfOk result (λ next. Means stack.new.items next (on_value (through_expression frame) completion) stack.old.items) }
+    ensures means { IfOk result (λ next. (fixed : State) (texts : List Program) → MeansIn (stated fixed store.now.cells texts) stack.new.items next (on_value (through_expression frame) completion) stack.old.items) }
     ensures light { IfOk result (λ next. IsLight stack.new.items next stack.old.items) }
 {
     match value_of(completion) {
-        Ok(value) => give_expression(alloc, stack, frame, value),
+        Ok(value) => give_expression(alloc, stack, store, frame, value),
         Err(end) => Ok(Next::Give(end)),
     }
 }
@@ -91,6 +102,24 @@ fn give_to_test(
     }
 }
 
+/// The answer to a question for a truth decides.
+fn give_to_truth(
+    alloc: Global,
+    stack: &mut Vec<Frame>,
+    texts: &[Program],
+    decision: Decision,
+    value: Value,
+    completion: Completion,
+) -> Result<Next, NoMemory>
+    ensures means { IfOk result (λ next. (fixed : State) (cells : List Cell) → MeansIn (stated fixed cells texts.now) stack.new.items next (on_bool (decides decision value) completion) stack.old.items) }
+    ensures light { IfOk result (λ next. IsLight stack.new.items next stack.old.items) }
+{
+    match told_truth(completion) {
+        Ok(holds) => decide(alloc, stack, texts, decision, value, holds),
+        Err(next) => Ok(next),
+    }
+}
+
 /// The value, or an end that passes what waits for a value.
 fn value_of(completion: Completion) -> Result<Value, Completion>
     ensures { IsValueOf completion result }
@@ -118,7 +147,7 @@ fn test(
 {
     match truth(&value) {
         Ok(Some(holds)) => decide(alloc, stack, texts, decision, value, holds),
-        Ok(None) => Err(NoMemory),
+        Ok(None) => ask_truth(alloc, stack, decision, value),
         Err(OpEnd::Raise(raised)) => Ok(Next::Give(Completion::Raises(raised))),
         Err(OpEnd::Beyond(beyond)) => Ok(Next::Leave(beyond)),
         Err(OpEnd::NoMemory) => Err(NoMemory),
@@ -141,6 +170,7 @@ fn decide(
         Decision::Or { env, next, waiting } => decide_or(stack, env, next, waiting, value, holds),
         Decision::And { env, next, waiting } => decide_and(stack, env, next, waiting, value, holds),
         Decision::Not => Ok(decide_not(holds)),
+        Decision::Bool => Ok(decide_bool(holds)),
         Decision::Conditional {
             env,
             then,

@@ -6,11 +6,14 @@ mod entering;
 mod giving;
 mod laws;
 mod machine;
+mod performing;
 mod running;
+mod starting;
 
-pub use alone::{AloneEnd, AloneRun, alone_run};
+pub use alone::{AloneEnd, AloneRun, alone_run, run_alone};
 pub use entering::enter;
 pub use giving::give;
 pub use laws::a_script_begins_with_its_statements;
 pub use machine::{Halt, Machine};
 pub use running::run;
+pub use starting::begin;

@@ -1,15 +1,18 @@
 use eval_frames::Frame;
-use object_operations::Completion;
+use object_operations::{Completion, Handling};
 use py_ast::Program;
 use py_store::Store;
 use rp_base::Beyond;
+use sqlite_items::Items;
 
-/// A side that runs scripts: its cells, its texts, what waits, and what it printed.
+/// A side that runs scripts: its cells, its texts, what waits, the exceptions that are being handled, the innermost
+/// last, and what it printed.
 #[derive(Drop)]
 pub struct Machine {
     pub store: Store,
     pub texts: Vec<Program>,
     pub stack: Vec<Frame>,
+    pub handled: Items<Handling>,
     pub printed: String,
 }
 

@@ -1,16 +1,20 @@
 ghost use Rattle.std.specs.Prelude.{◌≤◌, ℕ, IfOk};
 ghost use Rattle.eval_frames.specs.declared.next.Next.TheVariants as next;
+ghost use Rattle.eval_frames.specs.HandlerFrames.{through_handler};
 ghost use Rattle.eval_frames.specs.Meaning.{IsLight, resume};
+ghost use Rattle.eval_frames.specs.ObjectFrames.{through_printing};
 ghost use Rattle.language_rules.specs.Nodes.{node_rule};
 ghost use Rattle.nested_serve.specs.Machines.{Advances, GoesOn, Halts};
 
 use crate::entering::enter;
 use crate::giving::give;
 use crate::machine::{Halt, Machine};
-use eval_frames::{Frame, Next};
-use object_operations::{Completion, Env, Operation};
-use print_output::print;
-use rp_base::{NoMemory, Value};
+use crate::performing::{advance_making, advance_performing};
+use eval_frames::{Frame, HandlerFrame, Next, PrintingFrame};
+use eval_handlers::give_handler;
+use object_operations::{Completion, Env};
+use print_output::{give_printing, print};
+use rp_base::{NoMemory, Plain, Value};
 use sqlite_items::Items;
 use std::alloc::Global;
 
@@ -21,7 +25,7 @@ pub enum Progress {
     Halted(Halt),
 }
 
-/// One step, for which a unit may be due. Operations on objects are not built yet.
+/// One step, for which a unit may be due. That the other side is asked is not built yet.
 fn advance(
     alloc: Global,
     machine: &mut Machine,
@@ -36,16 +40,11 @@ fn advance(
         Next::Give(completion) => advance_with(alloc, machine, completion),
         Next::Print(values) => advance_printing(alloc, machine, values),
         Next::Leave(beyond) => Ok(Progress::Halted(Halt::Beyond(beyond))),
-        Next::Perform(operation) => operate(operation),
-        Next::Ask(operation) => operate(operation),
+        Next::Perform(operation) => advance_performing(alloc, machine, operation, fuel),
+        Next::HandlerName => Ok(advance_by_name(fuel)),
+        Next::Make(cell) => advance_making(machine, cell),
+        Next::Ask(_) => Err(NoMemory),
     }
-}
-
-/// Operations on objects are not built yet.
-fn operate(_operation: Operation) -> Result<Progress, NoMemory>
-    ensures { IfOk result (λ advance. ⊥) }
-{
-    Err(NoMemory)
 }
 
 /// A node begins, where a unit is left.
@@ -66,6 +65,18 @@ fn advance_into(
         }
         None => Ok(Progress::Halted(Halt::OutOfFuel)),
     }
+}
+
+/// The name of a handler, where a unit is left.
+fn advance_by_name(fuel: &mut u64) -> Progress
+    ensures run { (machine : Machine) → Advances machine next.HandlerName fuel.old result machine fuel.new }
+    ensures spent { fuel.new ≤ fuel.old }
+{
+    let Some(left) = fuel.checked_sub(1) else {
+        return Progress::Halted(Halt::OutOfFuel);
+    };
+    *fuel = left;
+    Progress::On(Next::Give(Completion::Gives(Value::Plain(Plain::None))))
 }
 
 /// An end goes to what waits, or is the last.
@@ -89,7 +100,7 @@ fn advance_printing(
 ) -> Result<Progress, NoMemory>
     ensures { IfOk result (λ advance. (units : ℕ) → Advances machine.old (next.Print values) units advance machine.new units) }
 {
-    let next = print(alloc, &mut machine.printed, values.as_slice())?;
+    let next = print(alloc, &mut machine.stack, &mut machine.printed, values)?;
     Ok(Progress::On(next))
 }
 
@@ -100,8 +111,9 @@ fn begin_node(alloc: Global, machine: &mut Machine, env: Env, number: u32) -> Re
     enter(
         alloc,
         &mut machine.stack,
-        &machine.store,
+        &mut machine.store,
         &machine.texts,
+        machine.handled.as_slice(),
         env,
         number,
     )
@@ -116,11 +128,52 @@ fn give_frame(
     ensures means { IfOk result (λ next. GoesOn machine.old (resume frame completion) machine.new next) }
     ensures light { IfOk result (λ next. IsLight machine.new.stack.items next machine.old.stack.items) }
 {
-    give(
+    match frame {
+        Frame::Handler(frame) => give_to_handler(alloc, machine, frame, completion),
+        Frame::Printing(frame) => give_to_printing(alloc, machine, frame, completion),
+        frame => give(
+            alloc,
+            &mut machine.stack,
+            &mut machine.store,
+            &machine.texts,
+            frame,
+            completion,
+        ),
+    }
+}
+
+fn give_to_handler(
+    alloc: Global,
+    machine: &mut Machine,
+    frame: HandlerFrame,
+    completion: Completion,
+) -> Result<Next, NoMemory>
+    ensures means { IfOk result (λ next. GoesOn machine.old (through_handler frame completion) machine.new next) }
+    ensures light { IfOk result (λ next. IsLight machine.new.stack.items next machine.old.stack.items) }
+{
+    give_handler(
         alloc,
         &mut machine.stack,
-        &mut machine.store,
         &machine.texts,
+        &mut machine.handled,
+        frame,
+        completion,
+    )
+}
+
+fn give_to_printing(
+    alloc: Global,
+    machine: &mut Machine,
+    frame: PrintingFrame,
+    completion: Completion,
+) -> Result<Next, NoMemory>
+    ensures means { IfOk result (λ next. GoesOn machine.old (through_printing frame completion) machine.new next) }
+    ensures light { IfOk result (λ next. IsLight machine.new.stack.items next machine.old.stack.items) }
+{
+    give_printing(
+        alloc,
+        &mut machine.stack,
+        &mut machine.printed,
         frame,
         completion,
     )

@@ -1,5 +1,5 @@
 use crate::special::Special;
-use rp_base::{CmpOp, Raised, Text, Value};
+use rp_base::{CmpOp, Text, Value};
 use sqlite_items::Items;
 
 /// An operation on an object, carried out at the object's home (after the handlers of RPyC's module `protocol`).
@@ -38,19 +38,4 @@ pub enum Operation {
     },
     Str(Value),
     Repr(Value),
-}
-
-/// What an operation or an expression gives.
-#[derive(Drop)]
-pub enum Outcome {
-    Value(Value),
-    Raised(Raised),
-}
-
-/// What a machine does next: begin a node, or hand a value or an exception to what waits.
-#[derive(Drop)]
-pub enum Control {
-    Enter(u32),
-    Give(Value),
-    Throw(Raised),
 }

@@ -1,29 +1,70 @@
-use crate::print;
-use eval_frames::Next;
-use object_operations::Completion;
+use crate::{give_printing, print};
+use eval_frames::{Frame, Next, PrintingFrame};
+use object_operations::{Completion, Operation};
 use rp_base::{NoMemory, Plain, Text, Value};
+use sqlite_items::Items;
 use std::alloc::Global;
 use std::test::Fail;
 
 /// What three calls print, with whether the last ended with None.
 fn three_lines(alloc: Global) -> Result<(String, bool), NoMemory> {
     let mut printed = String::new(alloc);
-    print(alloc, &mut printed, &[])?;
-    let text = Value::Plain(Plain::Text(Text::from_str(alloc, "a b")?));
-    print(alloc, &mut printed, &[text])?;
-    let two = [Value::Plain(Plain::Int(7)), Value::Plain(Plain::Bool(true))];
-    let next = print(alloc, &mut printed, &two)?;
-    let gave = matches!(
+    let mut stack = Vec::new(alloc);
+    print(alloc, &mut stack, &mut printed, Items::new(alloc))?;
+    let mut one = Items::new(alloc);
+    one.push(text(alloc, "a b")?)?;
+    print(alloc, &mut stack, &mut printed, one)?;
+    let mut two = Items::new(alloc);
+    two.push(Value::Plain(Plain::Int(7)))?;
+    two.push(Value::Plain(Plain::Bool(true)))?;
+    let next = print(alloc, &mut stack, &mut printed, two)?;
+    Ok((printed, is_none(&next)))
+}
+
+/// What is printed of an int, an object whose text is `x`, and a bool, with whether the object was asked, and whether the
+/// end was None.
+fn asked_line(alloc: Global) -> Result<(String, bool, bool), NoMemory> {
+    let mut printed = String::new(alloc);
+    let mut stack = Vec::new(alloc);
+    let mut values = Items::new(alloc);
+    values.push(Value::Plain(Plain::Int(7)))?;
+    values.push(Value::Own(3))?;
+    values.push(Value::Plain(Plain::Bool(true)))?;
+    let next = print(alloc, &mut stack, &mut printed, values)?;
+    let asked = matches!(next, Next::Perform(Operation::Str(Value::Own(3))));
+    let answer = Completion::Gives(text(alloc, "x")?);
+    let Some(Frame::Printing(PrintingFrame::Print { waiting })) = stack.pop() else {
+        return Err(NoMemory);
+    };
+    let frame = PrintingFrame::Print { waiting };
+    let next = give_printing(alloc, &mut stack, &mut printed, frame, answer)?;
+    Ok((printed, asked, is_none(&next)))
+}
+
+fn text(alloc: Global, text: &str) -> Result<Value, NoMemory> {
+    Ok(Value::Plain(Plain::Text(Text::from_str(alloc, text)?)))
+}
+
+fn is_none(next: &Next) -> bool {
+    matches!(
         next,
         Next::Give(Completion::Gives(Value::Plain(Plain::None)))
-    );
-    Ok((printed, gave))
+    )
 }
 
 #[test]
 fn values_are_printed(rt: HostRuntime) -> Result<(), Fail> {
     let (printed, gave) = three_lines(rt.alloc())?;
     assert_eq!(rt; printed.as_str(), "\na b\n7 True\n");
+    assert!(rt; gave);
+    Ok(())
+}
+
+#[test]
+fn an_object_is_asked(rt: HostRuntime) -> Result<(), Fail> {
+    let (printed, asked, gave) = asked_line(rt.alloc())?;
+    assert_eq!(rt; printed.as_str(), "7 x True\n");
+    assert!(rt; asked);
     assert!(rt; gave);
     Ok(())
 }

@@ -1,2 +1,4 @@
 pub mod Outcomes
+pub mod RunWords
+pub mod WordTests
 pub mod WordsLaws

@@ -1,36 +1,10 @@
 -- What is read of the words of a command line is what they spell, and a refusal says where they stop.
-use Rattle.std.proofs.Common.{◌≡◌, ℕ, List, [], ◌∷◌, Bool, true, false, arith, ap, sym, ◌∙◌, refl, subst, codes, cond, Result, Ok, Err}
+use Rattle.std.proofs.Common.{◌≡◌, ℕ, List, [], ◌∷◌, true, false, arith, refl, subst, sym, codes, cond, Ok, Err}
 use Rattle.std.specs.Bool.{IsTrue}
 use Rattle.std.specs.Str.{bytes_eq}
-use Rattle.std.proofs.lemmas.Slice.Eq.{bytes_eq-Decides}
-use Rattle.rpyc_cmd.specs.Words.{is_file_name, IsPair, IsDump, Asked, PairOf, DumpOf, Spells, Begins, IsRefusedAt, no_more, second_name, file_names, file_name, command_of}
-
-abbrev Read : Type 0
-Read = Result Asked ℕ
-
-abbrev pair_word : List ℕ
-pair_word = codes "pair"
-
-abbrev dump_word : List ℕ
-dump_word = codes "dump"
-
--- a test that decides whether the reading goes on
-goes_on : (t : Bool) (more : Read) (n : ℕ) (p : Asked) → cond t more (Err n) ≡ Ok p → (t ≡ true) × (more ≡ Ok p)
-goes_on true more n p h = (refl, h)
-goes_on false more n p h = cc
-
-stops_or_later : {G : Type 0} (t : Bool) (more : Read) (n at : ℕ) → (t ≡ true → more ≡ Err at → G) → (t ≡ false → n ≡ at → G) → cond t more (Err n) ≡ Err at → G
-stops_or_later true more n at later here h = later refl h
-stops_or_later false more n at later here h = here refl (cc)
-
--- a test that decides between two readings
-either : {G : Type 0} (t : Bool) (more less : Read) (r : Read) → (t ≡ true → more ≡ r → G) → (t ≡ false → less ≡ r → G) → cond t more less ≡ r → G
-either true more less r here later h = here refl h
-either false more less r here later h = later refl h
-
-no_more_gives : (x : Asked) (at : ℕ) (words : List (List ℕ)) (p : Asked) → no_more x at words ≡ Ok p → (words ≡ []) × (x ≡ p)
-no_more_gives x at [] p h = let e : x ≡ p = cc in (refl, e)
-no_more_gives x at (w ∷ words) p h = cc
+use Rattle.rpyc_cmd.proofs.RunWords.{pair_word, dump_word, run_word, run_words_gives, run_words_refuses}
+use Rattle.rpyc_cmd.proofs.WordTests.{bad_name, either, goes_on, no_more_gives, not_this, same_word, stops_or_later}
+use Rattle.rpyc_cmd.specs.Words.{is_file_name, IsPair, IsDump, Asked, PairOf, DumpOf, RunOf, Spells, Begins, IsRefusedAt, no_more, second_name, file_names, file_name, run_words, other_command, command_of}
 
 full_pair : (a b : List ℕ) → IsTrue (is_file_name a) → IsTrue (is_file_name b) → IsPair (pair_word ∷ a ∷ b ∷ []) a b
 full_pair a b good_a good_b = record { spelled = refl; named_a = good_a; named_b = good_b }
@@ -58,17 +32,24 @@ file_name_gives (x ∷ words) p h =
     subst (Spells (dump_word ∷ x ∷ words)) last.1
     (let F : List (List ℕ) → Type 0 = λ ws. IsDump (dump_word ∷ x ∷ ws) x in subst F (sym last.0) (full_dump x parts.0))
 
--- a word that is this one
-same_word : (word wanted : List ℕ) (P : List ℕ → Type 0) → bytes_eq word wanted ≡ true → P wanted → P word
-same_word word wanted P same h = subst P (sym ((bytes_eq-Decides word wanted).0 same)) h
+-- a word that is neither `pair` nor `dump`
+other_gives : (word : List ℕ) (words : List (List ℕ)) (p : Asked) → other_command word words ≡ Ok p → Spells (word ∷ words) p
+other_gives word words p h =
+    let parts = goes_on (bytes_eq word run_word) (run_words words) 0 p h in
+    same_word word run_word (λ w. Spells (w ∷ words) p) parts.0 (run_words_gives words p parts.1)
+
+no_pair_gives : (word : List ℕ) (words : List (List ℕ)) (p : Asked) → cond (bytes_eq word dump_word) (file_name words) (other_command word words) ≡ Ok p → Spells (word ∷ words) p
+no_pair_gives word words p h =
+    either (bytes_eq word dump_word) (file_name words) (other_command word words) (Ok p)
+    (λ same more. same_word word dump_word (λ w. Spells (w ∷ words) p) same (file_name_gives words p more))
+    (λ other more. other_gives word words p more) h
 
 pub command_gives : (words : List (List ℕ)) (p : Asked) → command_of words ≡ Ok p → Spells words p
 command_gives [] p h = cc
 command_gives (word ∷ words) p h =
-    either (bytes_eq word pair_word) (file_names words) (cond (bytes_eq word dump_word) (file_name words) (Err 0)) (Ok p)
+    either (bytes_eq word pair_word) (file_names words) (cond (bytes_eq word dump_word) (file_name words) (other_command word words)) (Ok p)
     (λ same more. same_word word pair_word (λ w. Spells (w ∷ words) p) same (file_names_gives words p more))
-    (λ other more. let parts = goes_on (bytes_eq word dump_word) (file_name words) 0 p more in
-    same_word word dump_word (λ w. Spells (w ∷ words) p) parts.0 (file_name_gives words p parts.1)) h
+    (λ other more. no_pair_gives word words p more) h
 
 -- Fronts of command lines.
 
@@ -91,64 +72,66 @@ begins_file : (file : List ℕ) → IsTrue (is_file_name file) → Begins (dump_
 begins_file file good = ([], DumpOf file, full_dump file good)
 
 -- What no command line is.
-not_this : (word wanted : List ℕ) (words others : List (List ℕ)) → bytes_eq word wanted ≡ false → word ∷ words ≡ wanted ∷ others → ⊥
-not_this word wanted words others other e =
-    let first : word ≡ wanted = cc in
-    let same : bytes_eq word wanted ≡ true = (bytes_eq-Decides word wanted).1 first in cc
-
-other_command : (word : List ℕ) (rest : List (List ℕ)) (p : Asked) → bytes_eq word pair_word ≡ false → bytes_eq word dump_word ≡ false → Spells (word ∷ rest) p → ⊥
-other_command word rest (PairOf a b) no_pair no_dump p = not_this word pair_word rest (a ∷ b ∷ []) no_pair p.spelled
-other_command word rest (DumpOf file) no_pair no_dump p = not_this word dump_word rest (file ∷ []) no_dump p.spelled
-
-bad_name : (x a : List ℕ) → x ≡ a → is_file_name x ≡ false → IsTrue (is_file_name a) → ⊥
-bad_name x a e other good = let bad : is_file_name a ≡ false = sym (ap is_file_name e) ∙ other in let well : is_file_name a ≡ true = good in cc
+no_command : (word : List ℕ) (rest : List (List ℕ)) (p : Asked) → bytes_eq word pair_word ≡ false → bytes_eq word dump_word ≡ false → bytes_eq word run_word ≡ false → Spells (word ∷ rest) p → ⊥
+no_command word rest (PairOf a b) no_pair no_dump no_run p = not_this word pair_word rest (a ∷ b ∷ []) no_pair p.spelled
+no_command word rest (DumpOf file) no_pair no_dump no_run p = not_this word dump_word rest (file ∷ []) no_dump p.spelled
+no_command word rest (RunOf file fuel) no_pair no_dump no_run p = not_this word run_word rest (file ∷ p.options) no_run p.spelled
 
 other_a : (x : List ℕ) (rest : List (List ℕ)) (p : Asked) → is_file_name x ≡ false → Spells (pair_word ∷ x ∷ rest) p → ⊥
 other_a x rest (PairOf a b) other p = let e : x ≡ a = let e = p.spelled in cc in bad_name x a e other p.named_a
 other_a x rest (DumpOf file) other p = not_this pair_word dump_word (x ∷ rest) (file ∷ []) refl p.spelled
+other_a x rest (RunOf file fuel) other p = not_this pair_word run_word (x ∷ rest) (file ∷ p.options) refl p.spelled
 
 other_b : (x y : List ℕ) (rest : List (List ℕ)) (p : Asked) → is_file_name y ≡ false → Spells (pair_word ∷ x ∷ y ∷ rest) p → ⊥
 other_b x y rest (PairOf a b) other p = let e : y ≡ b = let e = p.spelled in cc in bad_name y b e other p.named_b
 other_b x y rest (DumpOf file) other p = not_this pair_word dump_word (x ∷ y ∷ rest) (file ∷ []) refl p.spelled
+other_b x y rest (RunOf file fuel) other p = not_this pair_word run_word (x ∷ y ∷ rest) (file ∷ p.options) refl p.spelled
 
 other_file : (x : List ℕ) (rest : List (List ℕ)) (p : Asked) → is_file_name x ≡ false → Spells (dump_word ∷ x ∷ rest) p → ⊥
 other_file x rest (PairOf a b) other p = not_this dump_word pair_word (x ∷ rest) (a ∷ b ∷ []) refl p.spelled
 other_file x rest (DumpOf file) other p = let e : x ≡ file = let e = p.spelled in cc in bad_name x file e other p.named
+other_file x rest (RunOf file fuel) other p = not_this dump_word run_word (x ∷ rest) (file ∷ p.options) refl p.spelled
 
 pair_alone : (p : Asked) → Spells (pair_word ∷ []) p → ⊥
 pair_alone (PairOf a b) p = let e = p.spelled in cc
 pair_alone (DumpOf file) p = let e = p.spelled in cc
+pair_alone (RunOf file fuel) p = let e = p.spelled in cc
 
 dump_alone : (p : Asked) → Spells (dump_word ∷ []) p → ⊥
 dump_alone (PairOf a b) p = let e = p.spelled in cc
 dump_alone (DumpOf file) p = let e = p.spelled in cc
+dump_alone (RunOf file fuel) p = let e = p.spelled in cc
 
 nothing : (p : Asked) → Spells [] p → ⊥
 nothing (PairOf a b) p = let e = p.spelled in cc
 nothing (DumpOf file) p = let e = p.spelled in cc
+nothing (RunOf file fuel) p = let e = p.spelled in cc
 
 one_name : (x : List ℕ) (p : Asked) → Spells (pair_word ∷ x ∷ []) p → ⊥
 one_name x (PairOf a b) p = let e = p.spelled in cc
 one_name x (DumpOf file) p = not_this pair_word dump_word (x ∷ []) (file ∷ []) refl p.spelled
+one_name x (RunOf file fuel) p = not_this pair_word run_word (x ∷ []) (file ∷ p.options) refl p.spelled
 
 three_names : (x y z : List ℕ) (rest : List (List ℕ)) (p : Asked) → Spells (pair_word ∷ x ∷ y ∷ z ∷ rest) p → ⊥
 three_names x y z rest (PairOf a b) p = let e = p.spelled in cc
 three_names x y z rest (DumpOf file) p = let e = p.spelled in cc
+three_names x y z rest (RunOf file fuel) p = not_this pair_word run_word (x ∷ y ∷ z ∷ rest) (file ∷ p.options) refl p.spelled
 
 two_files : (x y : List ℕ) (rest : List (List ℕ)) (p : Asked) → Spells (dump_word ∷ x ∷ y ∷ rest) p → ⊥
 two_files x y rest (PairOf a b) p = not_this dump_word pair_word (x ∷ y ∷ rest) (a ∷ b ∷ []) refl p.spelled
 two_files x y rest (DumpOf file) p = let e = p.spelled in cc
+two_files x y rest (RunOf file fuel) p = not_this dump_word run_word (x ∷ y ∷ rest) (file ∷ p.options) refl p.spelled
 
 -- Each refusal: all words before the place begin a command line, and with the word at it, or with none, they do not.
 refused_empty : IsRefusedAt [] 0
 refused_empty = record { within = omega arith; begins = begins_empty; stops = λ more _. absurd (omega (arith, more)); lacks = nothing }
 
-refused_command : (word : List ℕ) (words : List (List ℕ)) → bytes_eq word pair_word ≡ false → bytes_eq word dump_word ≡ false → IsRefusedAt (word ∷ words) 0
-refused_command word words no_pair no_dump = record {
+refused_command : (word : List ℕ) (words : List (List ℕ)) → bytes_eq word pair_word ≡ false → bytes_eq word dump_word ≡ false → bytes_eq word run_word ≡ false → IsRefusedAt (word ∷ words) 0
+refused_command word words no_pair no_dump no_run = record {
   within = omega arith;
   begins = begins_empty;
-  stops = λ _ more. other_command word more.0 more.1 no_pair no_dump more.2;
-  lacks = λ p h. other_command word words p no_pair no_dump h;
+  stops = λ _ more. no_command word more.0 more.1 no_pair no_dump no_run more.2;
+  lacks = λ p h. no_command word words p no_pair no_dump no_run h;
 }
 
 refused_no_a : IsRefusedAt (pair_word ∷ []) 1
@@ -209,15 +192,21 @@ file_name_refuses (x ∷ words) at h =
     (λ good more. no_second_refuses x words at good more)
     (λ other e. subst (IsRefusedAt (dump_word ∷ x ∷ words)) e (refused_file x words other)) h
 
-no_pair_refuses : (word : List ℕ) (words : List (List ℕ)) (at : ℕ) → bytes_eq word pair_word ≡ false → cond (bytes_eq word dump_word) (file_name words) (Err 0) ≡ Err at → IsRefusedAt (word ∷ words) at
+other_refuses : (word : List ℕ) (words : List (List ℕ)) (at : ℕ) → bytes_eq word pair_word ≡ false → bytes_eq word dump_word ≡ false → other_command word words ≡ Err at → IsRefusedAt (word ∷ words) at
+other_refuses word words at no_pair no_dump h =
+    stops_or_later (bytes_eq word run_word) (run_words words) 0 at
+    (λ same more. same_word word run_word (λ w. IsRefusedAt (w ∷ words) at) same (run_words_refuses words at more))
+    (λ other e. subst (IsRefusedAt (word ∷ words)) e (refused_command word words no_pair no_dump other)) h
+
+no_pair_refuses : (word : List ℕ) (words : List (List ℕ)) (at : ℕ) → bytes_eq word pair_word ≡ false → cond (bytes_eq word dump_word) (file_name words) (other_command word words) ≡ Err at → IsRefusedAt (word ∷ words) at
 no_pair_refuses word words at no_pair h =
-    stops_or_later (bytes_eq word dump_word) (file_name words) 0 at
+    either (bytes_eq word dump_word) (file_name words) (other_command word words) (Err at)
     (λ same more. same_word word dump_word (λ w. IsRefusedAt (w ∷ words) at) same (file_name_refuses words at more))
-    (λ other e. subst (IsRefusedAt (word ∷ words)) e (refused_command word words no_pair other)) h
+    (λ other more. other_refuses word words at no_pair other more) h
 
 pub command_refuses : (words : List (List ℕ)) (at : ℕ) → command_of words ≡ Err at → IsRefusedAt words at
 command_refuses [] at h = let e : 0 ≡ at = cc in subst (IsRefusedAt []) e refused_empty
 command_refuses (word ∷ words) at h =
-    either (bytes_eq word pair_word) (file_names words) (cond (bytes_eq word dump_word) (file_name words) (Err 0)) (Err at)
+    either (bytes_eq word pair_word) (file_names words) (cond (bytes_eq word dump_word) (file_name words) (other_command word words)) (Err at)
     (λ same more. same_word word pair_word (λ w. IsRefusedAt (w ∷ words) at) same (file_names_refuses words at more))
     (λ other more. no_pair_refuses word words at other more) h

@@ -13,11 +13,15 @@ use Rattle.pair_run.specs.Running.{Wires, wires, IsUnrun, IsWholeRun, IsPartRun,
 use Rattle.pair_run.specs.Scripts.{AsksFor, Binds, IsFirstOtherQuestion, IsFirstOtherBinding, IsFirstUnbound, number_of}
 use Rattle.pair_run.specs.Talk.{printed, units_of}
 use Rattle.message_core.specs.declared.faults.PeerFault.{PeerFault}
+use Rattle.built_forms.specs.BuiltForms.{AllBuilt, IsFirstUnbuilt}
+use Rattle.nested_serve.specs.Alone.{IsRunAlone}
+use Rattle.nested_serve.specs.declared.alone.AloneRun.{AloneRun}
 use Rattle.report_text.specs.Dumping.{dump_text, dump_fault}
 use Rattle.rpyc_cmd.specs.declared.status.Status.{Status}
 use Rattle.rpyc_cmd.specs.declared.status.Status.TheVariants as status
-use Rattle.rpyc_cmd.specs.Words.{IsPair, Asked, PairOf, DumpOf, Spells, IsRefusedAt}
-use Rattle.rpyc_cmd.specs.Report.{report, words_line, script_line, not_there_line, read_fault_line}
+use Rattle.rpyc_cmd.specs.Words.{IsPair, Asked, PairOf, DumpOf, RunOf, Spells, IsRefusedAt}
+use Rattle.rpyc_cmd.specs.Statuses.{status_of}
+use Rattle.rpyc_cmd.specs.Report.{report, run_text, words_line, script_line, not_there_line, read_fault_line}
 
 -- a map from names to bytes, where the files tell it
 abbrev pub Held : Type 0
@@ -54,8 +58,11 @@ pub record Scripts (name_a name_b : List ℕ) (held : Held) : Type 0 where
   pub read_b : Holds held name_b text_b
 
 -- a text of the language, with its program
+unfoldable pub IsScriptOf : List ℕ → Program → Type 0
+IsScriptOf text program = Accepted starts.Script text program
+
 unfoldable pub IsScript : List ℕ → Type 0
-IsScript text = (program : Program) × Accepted starts.Script text program
+IsScript text = (program : Program) × IsScriptOf text program
 
 -- A's text is a script that asks for these letters; B's is one that binds these
 abbrev pub Asks : List ℕ → List ℕ → Type 0
@@ -143,10 +150,41 @@ abbrev pub DumpGives : Status → List ℕ → Outside → Outside → List ℕ 
 DumpGives status.File file old new text = IsFileRefusal old.held file old.file_faults new.file_faults text × Unbegun old new
 DumpGives decided file old new text = IsDumped decided old.held file text × Unbegun old new
 
+-- the least line of a script's text that has a form that is not built
+unfoldable pub IsFirstOtherForm : List ℕ → ℕ → Type 0
+IsFirstOtherForm text line = (program : Program) × IsScriptOf text program × IsFirstUnbuilt program line
+
+-- a status and a report that are those of a run of this program within so many units
+unfoldable pub IsReportedRun : Status → Program → ℕ → List ℕ → Type 0
+IsReportedRun decided program fuel text =
+    (run : AloneRun) × IsRunAlone program fuel run × (decided ≡ status_of run.end) × (text ≡ run_text run.printed run.end run.units)
+
+-- A file was read, its text is a script of which every form is built, and that was run alone.
+abbrev pub RunsAlone : List ℕ → ℕ → Held → Status → List ℕ → Type 0
+RunsAlone file fuel held decided text =
+    (bytes : List ℕ) × (program : Program) × Holds held file bytes × IsScriptOf bytes program × AllBuilt program × IsReportedRun decided program fuel text
+
+-- a file was read, and its text is refused
+abbrev pub RefusesAlone : List ℕ → Held → List ℕ → Type 0
+RefusesAlone file held text =
+    (bytes : List ℕ) × (line : ℕ) × (rule : Rule) × Holds held file bytes × IsTextRefusal IsFirstOtherForm bytes line rule × (text ≡ script_line file line rule)
+
+-- the refusal of a run: of its file, or of the script in it
+abbrev pub IsAloneRefusal : List ℕ → Held → ℕ → ℕ → Status → List ℕ → Type 0
+IsAloneRefusal file held old_faults new_faults decided text =
+    ((decided ≡ status.File) × IsFileRefusal held file old_faults new_faults text) ⊎ ((decided ≡ status.Script) × RefusesAlone file held text)
+
+-- What comes of a script alone in a file of this name, within so many units. No wire is begun.
+abbrev pub AloneGives : Status → List ℕ → ℕ → Outside → Outside → List ℕ → Type 0
+AloneGives status.File file fuel old new text = IsFileRefusal old.held file old.file_faults new.file_faults text × Unbegun old new
+AloneGives status.Script file fuel old new text = RefusesAlone file old.held text × Unbegun old new
+AloneGives decided file fuel old new text = RunsAlone file fuel old.held decided text × Unbegun old new
+
 -- what comes of what was asked for
 abbrev pub Gives : Status → Asked → Outside → Outside → List ℕ → Type 0
 Gives decided (PairOf name_a name_b) old new text = PairGives decided name_a name_b old new text
 Gives decided (DumpOf file) old new text = DumpGives decided file old new text
+Gives decided (RunOf file fuel) old new text = AloneGives decided file fuel old new text
 
 -- What the program decides on before it writes: a status and a text.
 abbrev pub Decides : Status → List (List ℕ) → Outside → Outside → List ℕ → Type 0
@@ -162,6 +200,7 @@ PairRunsOut name_a name_b old new =
 abbrev pub AskedRunsOut : Asked → Outside → Outside → Type 0
 AskedRunsOut (PairOf name_a name_b) old new = Unbegun old new ⊎ PairRunsOut name_a name_b old new
 AskedRunsOut (DumpOf file) old new = Unbegun old new
+AskedRunsOut (RunOf file fuel) old new = Unbegun old new
 
 -- Memory ran out before there was a text: the wires were not touched, or a run was cut short.
 abbrev pub RunsOut : List (List ℕ) → Outside → Outside → Type 0

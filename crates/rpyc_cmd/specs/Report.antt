@@ -1,8 +1,11 @@
--- What the program prints: the report of a pair, and the lines of its refusals.
+-- What the program prints: the report of a pair, that of a script alone, and the lines of its refusals.
 use Rattle.std.specs.Fmt.{decimal}
 use Rattle.std.specs.Prelude.{ℕ, if◌then◌else◌, ◌==◌, Bool, true, List, [], ◌∷◌, ◌++◌, length, Option, Some, None, codes}
-use Rattle.rp_base.specs.Names.{rule_name}
+use Rattle.rp_base.specs.Names.{rule_name, beyond_name}
 use Rattle.rp_base.specs.declared.rules.Rule.{Rule}
+use Rattle.language_rules.specs.Exceptions.{exception_repr}
+use Rattle.nested_serve.specs.declared.alone.AloneEnd.{AloneEnd}
+use Rattle.nested_serve.specs.declared.alone.AloneEnd.TheVariants as alone
 use Rattle.pair_run.specs.declared.ends.RunEnd.{RunEnd}
 use Rattle.pair_run.specs.Running.{end_name}
 
@@ -36,6 +39,17 @@ abbrev pub report : RunEnd → List ℕ → List ℕ → Option ℕ → Option (
 report end out_b out_a units tables =
     section (codes "B") out_b ++ section (codes "A") out_a
     ++ line (codes "end " ++ end_name end) ++ line (codes "units " ++ units_text units) ++ line (codes "tables " ++ tables_text tables)
+
+-- how a script alone ended
+abbrev pub alone_end_text : AloneEnd → List ℕ
+alone_end_text alone.Done = codes "done"
+alone_end_text (alone.Raised r) = codes "raised A " ++ exception_repr r.kind r.args
+alone_end_text alone.OutOfFuel = codes "fuel"
+alone_end_text (alone.Beyond b) = codes "beyond " ++ beyond_name b
+
+-- the report of a script that was run alone: what it printed, its end and its units
+abbrev pub run_text : List ℕ → AloneEnd → ℕ → List ℕ
+run_text printed end units = section (codes "A") printed ++ line (codes "end " ++ alone_end_text end) ++ line (codes "units " ++ decimal units)
 
 -- `rpyc: words at K`
 abbrev pub words_line : ℕ → List ℕ

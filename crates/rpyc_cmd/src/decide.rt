@@ -1,15 +1,20 @@
 ghost use Rattle.std.specs.Prelude.{◌≡◌, ◌≤◌, ℕ, map, IfOk, OnOk, IfErr, OnErr, All, IsSome, ◌⊎◌, string_bytes};
 ghost use Rattle.pair_run.specs.Running.{AreJoined, IsCutRun, wires};
 ghost use Rattle.pair_run.specs.Scripts.{AsksFor, Binds, IsFirstOtherQuestion, IsFirstOtherBinding, IsFirstUnbound, IsLetter, IsBinding, number_of};
+ghost use Rattle.built_forms.specs.BuiltForms.{AllBuilt};
 ghost use Rattle.rpyc_cmd.specs.Deciding.{IfRefused, IfNoMemory, RefusesScript, Finished};
-ghost use Rattle.rpyc_cmd.specs.Outcome.{Asks, BindsAll, IsScript, IsNoScript, IsTextRefusal, Holds, IsFileRefusal, IsRefusal, AreAccepted, IsDecided, IsDumped, PairGives, PairRunsOut, Gives, AskedRunsOut, Decides, RunsOut, Ends, outside, Unbegun};
+ghost use Rattle.rpyc_cmd.specs.Outcome.{Asks, BindsAll, IsScript, IsNoScript, IsScriptOf, IsFirstOtherForm, IsReportedRun, RunsAlone, IsAloneRefusal, IsTextRefusal, Holds, IsFileRefusal, IsRefusal, AreAccepted, IsDecided, IsDumped, PairGives, PairRunsOut, Gives, AskedRunsOut, Decides, RunsOut, Ends, outside, Unbegun};
 ghost use Rattle.rpyc_cmd.specs.Report.{script_line};
 ghost use Rattle.rpyc_cmd.specs.Words.{asked_by};
 
+use crate::alone_report::{run_report, run_status};
 use crate::report::{not_there_text, pair_report, read_fault_text, script_text, words_text};
 use crate::status::Status;
 use crate::words::{Command, read_words};
+use built_forms::first_unbuilt;
+use nested_serve::run_alone;
 use pair_run::{Binding, PairScripts, RunEnd, ScriptEnd, bindings, questions, run_pair};
+use py_ast::Program;
 use py_scope::{AcceptEnd, accept};
 use report_text::{Dump, dump};
 use rp_base::{Blob, NoMemory, Rule, Text};
@@ -73,18 +78,30 @@ fn refusal(alloc: Global, name: &str, line: usize, rule: Rule) -> Stop
     }
 }
 
-/// Refuses a text that is no script of the language.
-#[tactic(auto, unfolding(crate::specs::Outcome::IsScript, crate::specs::Outcome::IsNoScript))]
-fn check_script(alloc: Global, name: &str, text: &[u8]) -> Result<(), Stop>
-    ensures accepted { OnOk result (IsScript text.now) }
+/// The program of a text, or its refusal where it is no script of the language.
+#[tactic(auto, unfolding(crate::specs::Outcome::IsScriptOf, crate::specs::Outcome::IsNoScript))]
+fn read_program(alloc: Global, name: &str, text: &[u8]) -> Result<Program, Stop>
+    ensures accepted { IfOk result (λ program. IsScriptOf text.now program) }
     ensures refused { IfErr result (IfRefused (RefusesScript (λ refused line rule. (refused ≡ name.now) × IsNoScript text.now line rule))) }
 {
     match accept(alloc, text) {
-        Ok(_program) => Ok(()),
+        Ok(program) => Ok(program),
         Err(AcceptEnd::Refused(refused)) => {
             Err(refusal(alloc, name, refused.line as usize, refused.rule))
         }
         Err(AcceptEnd::NoMemory) => Err(Stop::NoMemory),
+    }
+}
+
+/// Refuses a text that is no script of the language.
+#[tactic(auto, unfolding(crate::specs::Outcome::IsScript))]
+fn check_script(alloc: Global, name: &str, text: &[u8]) -> Result<(), Stop>
+    ensures accepted { OnOk result (IsScript text.now) }
+    ensures refused { IfErr result (IfRefused (RefusesScript (λ refused line rule. (refused ≡ name.now) × IsNoScript text.now line rule))) }
+{
+    match read_program(alloc, name, text) {
+        Ok(_program) => Ok(()),
+        Err(stop) => Err(stop),
     }
 }
 
@@ -226,6 +243,52 @@ fn decide_dump<F: Files>(alloc: Global, name: &str, files: &mut F) -> Result<Dec
     }
 }
 
+/// The program of a text of which every form is built, or its refusal.
+fn read_built(alloc: Global, name: &str, text: &[u8]) -> Result<Program, Stop>
+    ensures accepted { IfOk result (λ program. IsScriptOf text.now program) }
+    ensures built { IfOk result AllBuilt }
+    ensures refused { IfErr result (IfRefused (RefusesScript (λ refused line rule. (refused ≡ name.now) × IsTextRefusal IsFirstOtherForm text.now line rule))) }
+{
+    let program = read_program(alloc, name, text)?;
+    match first_unbuilt(&program) {
+        None => Ok(program),
+        Some(line) => Err(refusal(alloc, name, line as usize, Rule::NotYet)),
+    }
+}
+
+/// Runs a program alone, and writes its report.
+#[tactic(auto, unfolding(crate::specs::Outcome::IsReportedRun))]
+fn run_program(alloc: Global, program: Program, fuel: u64) -> Result<Decided, NoMemory>
+    ensures { IfOk result (λ d. IsReportedRun d.status program fuel d.text) }
+{
+    let run = run_alone(alloc, program, fuel)?;
+    Ok(Decided {
+        status: run_status(&run.end),
+        text: run_report(alloc, &run)?,
+    })
+}
+
+/// Reads a file, and runs its script alone.
+fn decide_alone<F: Files>(
+    alloc: Global,
+    name: &str,
+    fuel: u64,
+    files: &mut F,
+) -> Result<Decided, Stop>
+    ensures decided { IfOk result (λ d. RunsAlone name.now fuel (F.held files.old) d.status d.text) }
+    ensures refused { IfErr result (IfRefused (IsAloneRefusal name.now (F.held files.old) (F.fault_count files.old) (F.fault_count files.new))) }
+    ensures kept { F.held files.new ≡ F.held files.old }
+{
+    let bytes = read_file(alloc, name, files)?;
+    match read_built(alloc, name, bytes.as_slice()) {
+        Ok(program) => match run_program(alloc, program, fuel) {
+            Ok(decided) => Ok(decided),
+            Err(NoMemory) => Err(Stop::NoMemory),
+        },
+        Err(stop) => Err(stop),
+    }
+}
+
 /// Does what a command asks for.
 fn decide_command<F: Files, W: Wire>(
     alloc: Global,
@@ -242,6 +305,7 @@ fn decide_command<F: Files, W: Wire>(
     match command {
         Command::Pair { a, b } => decide_pair(alloc, a, b, files, ab, ba),
         Command::Dump { file } => decide_dump(alloc, file, files),
+        Command::Run { file, fuel } => decide_alone(alloc, file, fuel, files),
     }
 }
 
@@ -284,7 +348,8 @@ fn finish<K: Sink>(decided: &Decided, out: &mut K) -> Status
     }
 }
 
-/// All that the program does: reads the words, runs the pair or reads the frames, and writes what came of it.
+/// All that the program does: reads the words, runs the pair or the script or reads the frames, and writes what came of
+/// it.
 ///
 /// Everything that is written goes to `out`. The two wires are those from A to B and from B to A; they are begun in
 /// this order, after all refusals and before the run.

@@ -1,7 +1,8 @@
-//! The program `rpyc`: runs two scripts as a pair over two byte wires and reports what they did, or writes a file of
-//! frames as text.
+//! The program `rpyc`: runs two scripts as a pair over two byte wires, or one script alone, and reports what they did, or
+//! writes a file of frames as text.
 #![tactic(auto)]
 
+mod alone_report;
 mod decide;
 mod report;
 mod status;

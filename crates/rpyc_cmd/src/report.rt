@@ -19,7 +19,7 @@ pub fn pair_report(alloc: Global, e: &PairEnd) -> Result<Text, NoMemory>
     Ok(Text::from_string(text))
 }
 
-fn push_section(text: &mut String, side: &str, printed: &str) -> Result<(), AllocError>
+pub(crate) fn push_section(text: &mut String, side: &str, printed: &str) -> Result<(), AllocError>
     ensures { OnOk result (string_bytes text.new ≡ string_bytes text.old ++ section side.now printed.now) }
 {
     let count = printed.len();

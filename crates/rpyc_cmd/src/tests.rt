@@ -264,6 +264,193 @@ fn files_of_frames(rt: HostRuntime) -> Result<(), Fail> {
     Ok(())
 }
 
+/// A script, the words behind the file's name, the status of its run alone, and what it writes.
+type Alone = (&'static [u8], &'static [&'static str], Status, &'static str);
+
+const LEAST: &[u8] = b"x = -170141183460469231731687303715884105727 - 1\nprint(x)\nprint(x - 1)\n";
+
+const LOOP: &[u8] =
+    b"n = 0\nwhile True:\n    n += 1\n    if n == 2:\n        continue\n    if n > 3:\n        break\n    print(n)\n";
+
+const TEXTS: &[u8] = b"print(\"it's\", 'a\"b', (\"it's\", \"q\"))\n";
+
+const NUMBERS: &[u8] = b"print(-7 // 2, -7 % 3, 7 // -2, 2 ** 10, (1,), ())\n";
+
+const CLOSURES: &[u8] =
+    b"def make(n):\n    def add(k):\n        nonlocal n\n        n += k\n        return n\n    return add\nf = make(10)\nprint(f(1), f(2))\ntry:\n    print(1 // 0)\nexcept ZeroDivisionError as e:\n    print(\"caught\", str(e))\nfinally:\n    print(\"last\")\n";
+
+const RETURNS: &[u8] =
+    b"def g():\n    try:\n        return 1\n    finally:\n        print('x')\nprint(g())\n";
+
+#[test]
+fn scripts_alone(rt: HostRuntime) -> Result<(), Fail> {
+    let alloc = rt.alloc();
+    let runs: [Alone; 16] = [
+        (
+            b"print(1)\n",
+            &["--fuel", "2"],
+            Status::OutOfFuel,
+            "A 0\nend fuel\nunits 2\n",
+        ),
+        (
+            b"print(1)\n",
+            &["--fuel", "3"],
+            Status::Done,
+            "A 2\n1\nend done\nunits 3\n",
+        ),
+        (
+            LEAST,
+            &[],
+            Status::Beyond,
+            "A 41\n-170141183460469231731687303715884105728\nend beyond Int\nunits 13\n",
+        ),
+        (
+            b"print(1 // 0)\n",
+            &[],
+            Status::Raised,
+            "A 0\nend raised A ZeroDivisionError('division by zero')\nunits 5\n",
+        ),
+        (
+            TEXTS,
+            &[],
+            Status::Done,
+            "A 23\nit's a\"b (\"it's\", 'q')\nend done\nunits 7\n",
+        ),
+        (
+            NUMBERS,
+            &[],
+            Status::Done,
+            "A 21\n-4 2 -4 1024 (1,) ()\nend done\nunits 20\n",
+        ),
+        (LOOP, &[], Status::Done, "A 4\n1\n3\nend done\nunits 51\n"),
+        (
+            b"print(1 < 2 < 3, 2 < 1 < print(9))\n",
+            &[],
+            Status::Done,
+            "A 11\nTrue False\nend done\nunits 9\n",
+        ),
+        (
+            b"print(y)\n",
+            &["--fuel", "1000000000"],
+            Status::Raised,
+            "A 0\nend raised A NameError('y')\nunits 3\n",
+        ),
+        (
+            CLOSURES,
+            &[],
+            Status::Done,
+            "A 35\n11 13\ncaught division by zero\nlast\nend done\nunits 43\n",
+        ),
+        (
+            RETURNS,
+            &[],
+            Status::Done,
+            "A 4\nx\n1\nend done\nunits 12\n",
+        ),
+        (
+            b"def f():\n    return f()\nf()\n",
+            &["--fuel", "100"],
+            Status::OutOfFuel,
+            "A 0\nend fuel\nunits 100\n",
+        ),
+        (
+            b"def f():\n    pass\nprint(f)\n",
+            &[],
+            Status::Beyond,
+            "A 0\nend beyond Address\nunits 5\n",
+        ),
+        (
+            b"print((lambda x: x + 1)(2))\n",
+            &[],
+            Status::Done,
+            "A 2\n3\nend done\nunits 9\n",
+        ),
+        (
+            b"try:\n    raise ValueError('a', 1)\nexcept KeyError:\n    pass\n",
+            &[],
+            Status::Raised,
+            "A 0\nend raised A ValueError('a', 1)\nunits 4\n",
+        ),
+        (
+            b"print(1)\n\nx = [1]\n",
+            &[],
+            Status::Script,
+            "rpyc: a.py line 3 rule NotYet\n",
+        ),
+    ];
+    for (script, options, status, text) in runs {
+        check_alone(&rt, alloc, script, options, status, text)?;
+    }
+    Ok(())
+}
+
+/// Runs `run a.py` with these options on a text, and compares the status and all that was written. No wire is begun.
+fn check_alone(
+    rt: &impl Abort,
+    alloc: Global,
+    script: &[u8],
+    options: &[&str],
+    status: Status,
+    text: &str,
+) -> Result<(), AllocError> {
+    let mut devices = make_devices(alloc, script, b"")?;
+    let mut words = Vec::new(alloc);
+    words.push("run")?;
+    words.push("a.py")?;
+    words.extend_from_slice(options)?;
+    let ended = run(alloc, &words, &mut devices)?;
+    assert_eq!(rt; ended, status);
+    assert_eq!(rt; devices.out.taken(), text.as_bytes());
+    assert!(rt; devices.ab.begun().is_none() && devices.ba.begun().is_none());
+    Ok(())
+}
+
+#[test]
+fn words_of_a_run(rt: HostRuntime) -> Result<(), Fail> {
+    let alloc = rt.alloc();
+    let calls: [Call; 8] = [
+        (&["run"], Status::Words, "rpyc: words at 1\n"),
+        (&["run", "-a"], Status::Words, "rpyc: words at 1\n"),
+        (
+            &["run", "a.py", "b.py"],
+            Status::Words,
+            "rpyc: words at 2\n",
+        ),
+        (
+            &["run", "a.py", "--fuel"],
+            Status::Words,
+            "rpyc: words at 3\n",
+        ),
+        (
+            &["run", "a.py", "--fuel", "01"],
+            Status::Words,
+            "rpyc: words at 3\n",
+        ),
+        (
+            &["run", "a.py", "--fuel", "1000000001"],
+            Status::Words,
+            "rpyc: words at 3\n",
+        ),
+        (
+            &["run", "a.py", "--fuel", "0", "b.py"],
+            Status::Words,
+            "rpyc: words at 4\n",
+        ),
+        (
+            &["run", "gone.py", "--fuel", "0"],
+            Status::File,
+            "rpyc: gone.py not there\n",
+        ),
+    ];
+    for (words, status, text) in calls {
+        let mut devices = make_devices(alloc, b"print(1)\n", b"")?;
+        let ended = run(alloc, words, &mut devices)?;
+        assert_eq!(rt; ended, status);
+        assert_eq!(rt; devices.out.taken(), text.as_bytes());
+    }
+    Ok(())
+}
+
 #[test]
 fn devices_that_fail(rt: HostRuntime) -> Result<(), Fail> {
     let alloc = rt.alloc();

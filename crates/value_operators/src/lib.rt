@@ -1,6 +1,7 @@
 //! Operators, items, membership and comparisons of values that no object has to be asked for.
 #![tactic(auto)]
 
+mod defined;
 mod ends;
 mod items;
 mod links;
@@ -12,6 +13,7 @@ mod testing;
 mod tests;
 mod tuples;
 
+pub use defined::is_defined;
 pub use items::item;
 pub use links::link;
 pub use operators::{binary, unary};

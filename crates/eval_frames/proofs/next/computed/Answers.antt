@@ -1,5 +1,5 @@
-use Rattle.language_rules.specs.Codes.{Gives, Raises}
-use Rattle.eval_frames.proofs.Answering.{computes_given, computes_left}
+use Rattle.language_rules.specs.Codes.{Gives}
+use Rattle.eval_frames.proofs.Answering.{computes_given}
 use Rattle.eval_frames.proofs.next.computed.Goals as goal
 
 pub returns-in-Ok-Some-clause-means : goal.returns-in-Ok-Some-clause-means

@@ -1,0 +1,4 @@
+pub mod BindingLemmas
+pub mod BodyLemmas
+pub mod CallLemmas
+pub mod ParameterLemmas

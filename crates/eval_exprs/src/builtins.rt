@@ -1,0 +1,188 @@
+ghost use Rattle.std.specs.Prelude.{◌≡◌, ◌∷◌, [], IfOk, List, true};
+ghost use Rattle.py_ast.specs.declared.builtin.Builtin.{Builtin};
+ghost use Rattle.eval_frames.specs.declared.frame.Frame.{Frame};
+ghost use Rattle.eval_frames.specs.Meaning.{IsLight, Means};
+ghost use Rattle.language_rules.specs.Builtins.{builtin_rule};
+ghost use Rattle.language_rules.specs.Draining.{drains_kind, not_iterable};
+ghost use Rattle.language_rules.specs.Going.{RuleTree};
+ghost use Rattle.language_rules.specs.Kinds.{is_reference};
+ghost use Rattle.eval_exprs.specs.Steps.{IsOnlyReference, MeansAt, drains_object, takes_no_object};
+
+use crate::asking::{fail, is_reference, special};
+use crate::kinds::kind_of;
+use crate::testing::ask_truth;
+use builtin_functions::builtin;
+use eval_frames::{Decision, Frame, Next, OperationFrame, computed, operate, operate_over};
+use object_operations::{Operation, Special};
+use py_ast::Builtin;
+use py_store::Store;
+use rp_base::{Beyond, ExcKind, Kind, NoMemory, Value};
+use sqlite_items::Items;
+use std::alloc::Global;
+
+/// A builtin function with its arguments (Python Library Reference, "Built-in Functions"). What makes a cell is not built
+/// yet, nor what goes over an object, nor the text of a tuple that holds a reference.
+pub(crate) fn call_function(
+    alloc: Global,
+    stack: &mut Vec<Frame>,
+    store: &Store,
+    function: Builtin,
+    arguments: Items<Value>,
+) -> Result<Next, NoMemory>
+    ensures means { IfOk result (λ next. MeansAt store.now.cells stack.new.items next (builtin_rule function arguments) stack.old.items) }
+    ensures light { IfOk result (λ next. IsLight stack.new.items next stack.old.items) }
+{
+    match only_reference(alloc, arguments.as_slice())? {
+        Some(value) => call_of_object(alloc, stack, store, function, value),
+        None => computed(builtin(alloc, function, arguments.as_slice())),
+    }
+}
+
+/// The only argument, where it refers to an object.
+fn only_reference(alloc: Global, arguments: &[Value]) -> Result<Option<Value>, NoMemory>
+    ensures { IfOk result (λ found. IsOnlyReference arguments.now found) }
+{
+    match arguments {
+        [value] => copy_of_reference(alloc, value),
+        _ => Ok(None),
+    }
+}
+
+fn copy_of_reference(alloc: Global, value: &Value) -> Result<Option<Value>, NoMemory>
+    ensures { IfOk result (λ found. IsOnlyReference (value.now ∷ []) found) }
+{
+    if is_reference(value) {
+        Ok(Some(value.copy(alloc)?))
+    } else {
+        Ok(None)
+    }
+}
+
+/// A builtin function of an object.
+fn call_of_object(
+    alloc: Global,
+    stack: &mut Vec<Frame>,
+    store: &Store,
+    function: Builtin,
+    value: Value,
+) -> Result<Next, NoMemory>
+    requires { is_reference value ≡ true }
+    ensures means { IfOk result (λ next. MeansAt store.now.cells stack.new.items next (builtin_rule function (value ∷ [])) stack.old.items) }
+    ensures light { IfOk result (λ next. IsLight stack.new.items next stack.old.items) }
+{
+    match function {
+        Builtin::Len => Ok(length(alloc, value)),
+        Builtin::Str => text(stack, value),
+        Builtin::Repr => shown(stack, value),
+        Builtin::Bool => bool(alloc, stack, value),
+        Builtin::Tuple => drain(alloc, store, Builtin::Tuple, value),
+        Builtin::Min => drain(alloc, store, Builtin::Min, value),
+        Builtin::Max => drain(alloc, store, Builtin::Max, value),
+        Builtin::Sum => drain(alloc, store, Builtin::Sum, value),
+        Builtin::List => drain(alloc, store, Builtin::List, value),
+        Builtin::Sorted => drain(alloc, store, Builtin::Sorted, value),
+        Builtin::Int => Ok(refuse(Builtin::Int, value)),
+        Builtin::Abs => Ok(refuse(Builtin::Abs, value)),
+        Builtin::Ord => Ok(refuse(Builtin::Ord, value)),
+        Builtin::Chr => Ok(refuse(Builtin::Chr, value)),
+        Builtin::Dict => Ok(refuse(Builtin::Dict, value)),
+        Builtin::Range => Ok(refuse(Builtin::Range, value)),
+        Builtin::Print => Err(NoMemory),
+    }
+}
+
+/// `len` of an object.
+fn length(alloc: Global, value: Value) -> Next
+    requires { is_reference value ≡ true }
+    ensures means { (stack : List Frame) → Means stack result (builtin_rule Builtin.Len (value ∷ [])) stack }
+    ensures light { (stack : List Frame) → IsLight stack result stack }
+{
+    operate(special(alloc, value, Special::Len))
+}
+
+/// `str` of an object.
+fn text(stack: &mut Vec<Frame>, value: Value) -> Result<Next, NoMemory>
+    requires { is_reference value ≡ true }
+    ensures means { IfOk result (λ next. Means stack.new.items next (builtin_rule Builtin.Str (value ∷ [])) stack.old.items) }
+    ensures light { IfOk result (λ next. IsLight stack.new.items next stack.old.items) }
+{
+    operate_over(
+        stack,
+        Frame::Operation(OperationFrame::Text),
+        Operation::Str(value),
+    )
+}
+
+/// `repr` of an object.
+fn shown(stack: &mut Vec<Frame>, value: Value) -> Result<Next, NoMemory>
+    requires { is_reference value ≡ true }
+    ensures means { IfOk result (λ next. Means stack.new.items next (builtin_rule Builtin.Repr (value ∷ [])) stack.old.items) }
+    ensures light { IfOk result (λ next. IsLight stack.new.items next stack.old.items) }
+{
+    operate_over(
+        stack,
+        Frame::Operation(OperationFrame::Text),
+        Operation::Repr(value),
+    )
+}
+
+/// `bool` of an object.
+#[tactic(auto, unfolding(language_rules::specs::Builtins::builtin_rule))]
+fn bool(alloc: Global, stack: &mut Vec<Frame>, value: Value) -> Result<Next, NoMemory>
+    requires { is_reference value ≡ true }
+    ensures means { IfOk result (λ next. Means stack.new.items next (builtin_rule Builtin.Bool (value ∷ [])) stack.old.items) }
+    ensures light { IfOk result (λ next. IsLight stack.new.items next stack.old.items) }
+{
+    ask_truth(alloc, stack, Decision::Bool, value)
+}
+
+/// A function that takes no object leaves the subset.
+fn refuse(function: Builtin, value: Value) -> Next
+    requires object { is_reference value ≡ true }
+    requires refused { takes_no_object function ≡ true }
+    ensures means { (stack : List Frame) → Means stack result (builtin_rule function (value ∷ [])) stack }
+    ensures light { (stack : List Frame) → IsLight stack result stack }
+{
+    Next::Leave(Beyond::Arguments)
+}
+
+/// A function that goes over an object ends by the object's kind. Going over one is not built yet.
+fn drain(alloc: Global, store: &Store, function: Builtin, value: Value) -> Result<Next, NoMemory>
+    requires object { is_reference value ≡ true }
+    requires drained { drains_object function ≡ true }
+    ensures means { IfOk result (λ next. (stack : List Frame) → MeansAt store.now.cells stack next (builtin_rule function (value ∷ [])) stack) }
+    ensures light { IfOk result (λ next. (stack : List Frame) → IsLight stack next stack) }
+{
+    drain_of_kind(alloc, kind_of(store, &value))
+}
+
+fn drain_of_kind(alloc: Global, kind: Option<Kind>) -> Result<Next, NoMemory>
+    ensures means { IfOk result (λ next. (over : RuleTree) (stack : List Frame) → Means stack next (drains_kind over kind) stack) }
+    ensures light { IfOk result (λ next. (stack : List Frame) → IsLight stack next stack) }
+{
+    match kind {
+        Some(Kind::List) => Err(NoMemory),
+        Some(Kind::Dict) => Err(NoMemory),
+        Some(Kind::Range) => Err(NoMemory),
+        Some(Kind::View) => Err(NoMemory),
+        Some(Kind::Instance) => Ok(Next::Leave(Beyond::Drain)),
+        Some(Kind::Iter) => Ok(Next::Leave(Beyond::Drain)),
+        Some(Kind::Namespace) => Ok(Next::Leave(Beyond::Namespace)),
+        Some(Kind::Function) => refuse_items(alloc),
+        Some(Kind::Bound) => refuse_items(alloc),
+        Some(Kind::Class) => refuse_items(alloc),
+        Some(Kind::Host) => refuse_items(alloc),
+        Some(Kind::HostFunc) => refuse_items(alloc),
+        Some(Kind::Root) => refuse_items(alloc),
+        Some(Kind::Conn) => refuse_items(alloc),
+        Some(Kind::Modules) => refuse_items(alloc),
+        None => refuse_items(alloc),
+    }
+}
+
+fn refuse_items(alloc: Global) -> Result<Next, NoMemory>
+    ensures means { IfOk result (λ next. (stack : List Frame) → Means stack next not_iterable stack) }
+    ensures light { IfOk result (λ next. (stack : List Frame) → IsLight stack next stack) }
+{
+    fail(alloc, ExcKind::TypeError, "not iterable")
+}

@@ -1,0 +1,47 @@
+-- Operations, and what goes on after their answers.
+use Rattle.std.proofs.Common.{◌≡◌, ◌∙◌, ap, sym, zero, suc, Bool, true, false, List, [], ◌∷◌, ◌++◌, reverse, refl, if◌then◌else◌}
+use Rattle.std.proofs.lemmas.List.{reverse-append}
+use Rattle.rp_base.specs.declared.exceptions.Beyond.TheVariants as beyond
+use Rattle.object_operations.specs.declared.operation.Operation.{Operation}
+use Rattle.side_trees.specs.Trees.{Ask, Do, Return, Stop, bind}
+use Rattle.language_rules.specs.Answers.{asked}
+use Rattle.language_rules.specs.Codes.{Code, Completion, Give, Perform}
+use Rattle.language_rules.specs.Going.{RuleTree, is_asked, judged_arguments, operates, too_heavy}
+use Rattle.language_rules.specs.Rules.{expand}
+use Rattle.language_rules.specs.States.{State}
+use Rattle.eval_frames.specs.declared.frame.Frame.{Frame}
+use Rattle.eval_frames.specs.declared.next.Next.{Next}
+use Rattle.eval_frames.specs.Meaning.{Means, RunsAs, operates_over, rest, resume}
+
+-- an operation by what is judged of it
+abbrev judged : Bool → Bool → Operation → (Completion → Code) → (Completion → RuleTree) → RuleTree
+judged heavy far o c k = if heavy then Stop beyond.Size else (if far then Ask o c k else Do (Perform o) c k)
+
+waits : (heavy far : Bool) (s : State) (o : Operation) (c : Completion → Code) (k : Completion → RuleTree)
+    → RunsAs s (bind (judged heavy far o c (λ a. Return a)) k) (bind (judged heavy far o (λ a. Give a) (λ a. expand (c a))) k)
+waits true far s o c k units printed = refl
+waits false true s o c k units printed = refl
+waits false false s o c k zero printed = refl
+waits false false s o c k (suc units) printed = refl
+
+pub code_waits : (s : State) (o : Operation) (c : Completion → Code) (k : Completion → RuleTree)
+    → RunsAs s (bind (operates o c (λ a. Return a)) k) (bind (operates o (λ a. Give a) (λ a. expand (c a))) k)
+code_waits s o c k = waits (too_heavy (judged_arguments o)) (is_asked o) s o c k
+
+-- what goes on after an operation goes on after what goes on after its answer
+bound : (heavy far : Bool) (o : Operation) (c : Completion → Code) (k j : Completion → RuleTree) → bind (judged heavy far o c k) j ≡ judged heavy far o c (λ a. bind (k a) j)
+bound true far o c k j = refl
+bound false true o c k j = refl
+bound false false o c k j = refl
+
+pub operates_bound : (o : Operation) (c : Completion → Code) (k j : Completion → RuleTree) → bind (operates o c k) j ≡ operates o c (λ a. bind (k a) j)
+operates_bound o c k j = bound (too_heavy (judged_arguments o)) (is_asked o) o c k j
+
+-- an operation over a frame that was pushed
+pub pushed_over : (o : Operation) (f : Frame) (n : Next) (before now : List Frame) → now ≡ before ++ f ∷ [] → ((stack : List Frame) → Means stack n (asked o) stack) → Means now n (operates_over o f) before
+pushed_over o f n before now p h =
+    h now
+    ∙ ap (λ (fs : List Frame). bind (asked o) (rest (reverse fs))) p
+    ∙ ap (λ (fs : List Frame). bind (asked o) (rest fs)) (reverse-append before (f ∷ []))
+    ∙ operates_bound o (λ a. Give a) (λ a. Return a) (rest (f ∷ reverse before))
+    ∙ sym (operates_bound o (λ a. Give a) (resume f) (rest (reverse before)))

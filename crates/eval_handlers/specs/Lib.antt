@@ -1,0 +1,4 @@
+pub mod Choosing
+pub mod Entering
+pub mod Telling
+pub mod Unbinding

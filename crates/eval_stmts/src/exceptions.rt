@@ -1,0 +1,29 @@
+ghost use Rattle.std.specs.Prelude.{◌≡◌, ◌∷◌, [], IfOk, List};
+ghost use Rattle.rp_base.specs.declared.plain.Plain.TheVariants as plain;
+ghost use Rattle.eval_frames.specs.declared.frame.Frame.{Frame};
+ghost use Rattle.eval_frames.specs.Meaning.{IsLight, Means};
+ghost use Rattle.language_rules.specs.Going.{fails, raised};
+
+use eval_frames::Next;
+use object_operations::Completion;
+use rp_base::{ExcKind, NoMemory, Plain, Raised, Text};
+use sqlite_items::Items;
+use std::alloc::Global;
+
+/// An exception of this kind, with this text.
+pub(crate) fn exception(alloc: Global, kind: ExcKind, text: &str) -> Result<Raised, NoMemory>
+    ensures { IfOk result (λ r. r ≡ raised kind (plain.Text text.now ∷ [])) }
+{
+    let mut args = Items::new(alloc);
+    args.push(Plain::Text(Text::from_str(alloc, text)?))?;
+    Ok(Raised { kind, args })
+}
+
+/// An exception of this kind, with this text, is raised.
+pub(crate) fn refuse(alloc: Global, kind: ExcKind, text: &str) -> Result<Next, NoMemory>
+    ensures means { IfOk result (λ next. (stack : List Frame) → Means stack next (fails kind text.now) stack) }
+    ensures light { IfOk result (λ next. (stack : List Frame) → IsLight stack next stack) }
+{
+    let raised = exception(alloc, kind, text)?;
+    Ok(Next::Give(Completion::Raises(raised)))
+}

@@ -1,0 +1,8 @@
+n = 0
+while True:
+    n += 1
+    if n == 2:
+        continue
+    if n > 3:
+        break
+    print(n)
