@@ -8,11 +8,13 @@ ghost use Rattle.language_rules.specs.Going.{RuleTree};
 ghost use Rattle.language_rules.specs.Kinds.{is_reference};
 ghost use Rattle.eval_exprs.specs.Steps.{IsOnlyReference, MeansAt, drains_object, takes_no_object};
 
-use crate::asking::{fail, is_reference, special};
 use crate::kinds::kind_of;
 use crate::testing::ask_truth;
 use builtin_functions::builtin;
-use eval_frames::{Decision, Frame, Next, OperationFrame, computed, operate, operate_over};
+use eval_frames::{
+    Decision, Frame, Next, OperationFrame, computed, fail, is_reference, operate, operate_over,
+    special,
+};
 use object_operations::{Operation, Special};
 use py_ast::Builtin;
 use py_store::Store;

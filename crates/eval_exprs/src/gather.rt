@@ -80,6 +80,7 @@ fn gathered(
 {
     match gathering {
         Gathering::Tuple => tuple(alloc, values),
+        Gathering::List | Gathering::Dict => Err(NoMemory),
         Gathering::Raise(kind) => raise(alloc, kind, values),
         Gathering::Builtin(Builtin::Print) => print(values),
         Gathering::Builtin(function) => call_function(alloc, stack, store, function, values),

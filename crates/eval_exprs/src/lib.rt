@@ -19,7 +19,7 @@ mod testing;
 
 pub use begin::begin_expression;
 pub use chains::{begin_and, begin_or};
-pub use comparing::give_comparison;
+pub use comparing::{ask_comparison, give_comparison};
 pub use decide::{decide_and, decide_bool, decide_conditional, decide_link, decide_not, decide_or};
 pub use give::give_expression;
 pub use operating::give_operation;

@@ -45,6 +45,9 @@ pub fn give(
         Frame::Operation(frame) => give_operation(alloc, frame, completion),
         Frame::Comparison(frame) => give_comparison(alloc, stack, frame, completion),
         Frame::Handler(_) | Frame::Printing(_) => Err(NoMemory),
+        Frame::Target(_) | Frame::For(_) | Frame::Drain(_) => Err(NoMemory),
+        Frame::Search(_) | Frame::Equality(_) | Frame::Addition(_) => Err(NoMemory),
+        Frame::Text(_) => Err(NoMemory),
         Frame::Expression(frame) => give_to_expression(alloc, stack, store, frame, completion),
         Frame::Statement(frame) => {
             give_to_statement(alloc, stack, store, texts, frame, completion)
