@@ -33,7 +33,13 @@ pub code_waits : (s : State) (o : Operation) (c : Completion → Code) (k : Comp
 code_waits s o c k = waits (too_heavy (judged_arguments o)) (is_asked o) s o c k
 
 -- a piece of code, and then another, with what is behind both
-behind : (c f : Completion → Code) (k : Completion → RuleTree) → (λ (a : Completion). bind (expand (Then (c a) f)) k) ≡ (λ (a : Completion). bind (expand (c a)) (λ r. bind (expand (f r)) k))
+abbrev after_both : (Completion → Code) → (Completion → Code) → (Completion → RuleTree) → Completion → RuleTree
+after_both c f k a = bind (expand (Then (c a) f)) k
+
+abbrev after_each : (Completion → Code) → (Completion → Code) → (Completion → RuleTree) → Completion → RuleTree
+after_each c f k a = bind (expand (c a)) (λ r. bind (expand (f r)) k)
+
+behind : (c f : Completion → Code) (k : Completion → RuleTree) → after_both c f k ≡ after_each c f k
 behind c f k = fun_ext (λ a. bind-bind (expand (c a)) (λ r. expand (f r)) k)
 
 goes_on : (heavy far : Bool) (s : State) (o : Operation) (c f : Completion → Code) (k : Completion → RuleTree)

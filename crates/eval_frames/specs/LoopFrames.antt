@@ -1,5 +1,5 @@
 -- What waits within a `for`, or while a collection is gone over, and what it makes of an end.
-use Rattle.std.specs.Prelude.{◌+◌, ◌++◌, [], ◌∷◌, List, chars, length, if◌then◌else◌}
+use Rattle.std.specs.Prelude.{◌+◌, ◌++◌, [], List, chars, length, if◌then◌else◌}
 use Rattle.rp_base.specs.Values.{tuple_of}
 use Rattle.rp_base.specs.declared.operators.CmpOp.TheVariants as cmp
 use Rattle.rp_base.specs.declared.value.Value.{Value}

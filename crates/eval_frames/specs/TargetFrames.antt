@@ -4,7 +4,6 @@ use Rattle.rp_base.specs.declared.value.Value.{Value}
 use Rattle.object_operations.specs.declared.operation.Operation.TheVariants as operation
 use Rattle.object_operations.specs.declared.special.Special.TheVariants as special
 use Rattle.side_trees.specs.Trees.{Return, bind}
-use Rattle.language_rules.specs.Codes.{Completion}
 use Rattle.language_rules.specs.Going.{RuleTree, asks, done, evaluates, on_value}
 use Rattle.language_rules.specs.Operators.{augmented_rule}
 use Rattle.language_rules.specs.PlainItems.{item_of}

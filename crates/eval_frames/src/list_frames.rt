@@ -58,7 +58,10 @@ pub enum EqualityFrame {
 #[derive(Drop)]
 pub enum AdditionFrame {
     /// The length of the other.
-    Length { list: u32, other: Value },
+    Length {
+        list: u32,
+        other: Value,
+    },
     /// The other's item at a position, of so many, behind the items that are there.
     Item {
         other: Value,

@@ -7,9 +7,17 @@ use sqlite_items::Items;
 #[derive(Drop)]
 pub enum ForFrame {
     /// The value that is gone over.
-    Source { env: Env, target: u32, body: u32 },
+    Source {
+        env: Env,
+        target: u32,
+        body: u32,
+    },
     /// Its iterator.
-    Iterator { env: Env, target: u32, body: u32 },
+    Iterator {
+        env: Env,
+        target: u32,
+        body: u32,
+    },
     /// The next item of the iterator.
     Item {
         env: Env,

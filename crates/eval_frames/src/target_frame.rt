@@ -14,9 +14,19 @@ pub enum Destination {
 #[derive(Drop)]
 pub enum TargetFrame {
     /// The receiver of an attribute that this value goes to.
-    AttributeReceiver { name: Text, value: Value },
-    ItemReceiver { env: Env, key: u32, value: Value },
-    ItemKey { receiver: Value, value: Value },
+    AttributeReceiver {
+        name: Text,
+        value: Value,
+    },
+    ItemReceiver {
+        env: Env,
+        key: u32,
+        value: Value,
+    },
+    ItemKey {
+        receiver: Value,
+        value: Value,
+    },
     /// What an operation gives is dropped.
     Done,
     /// The targets behind the one that a value goes to.
@@ -61,7 +71,14 @@ pub enum TargetFrame {
     /// What the operator made.
     Store(Destination),
     /// The receiver of an attribute that is deleted.
-    DeletedReceiver { name: Text },
-    DeletedItemReceiver { env: Env, key: u32 },
-    DeletedKey { receiver: Value },
+    DeletedReceiver {
+        name: Text,
+    },
+    DeletedItemReceiver {
+        env: Env,
+        key: u32,
+    },
+    DeletedKey {
+        receiver: Value,
+    },
 }
