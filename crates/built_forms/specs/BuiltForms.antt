@@ -24,8 +24,8 @@ is_built_function builtin.Bool = true
 is_built_function builtin.Abs = true
 is_built_function builtin.Ord = true
 is_built_function builtin.Chr = true
-is_built_function builtin.Range = false
-is_built_function builtin.List = false
+is_built_function builtin.Range = true
+is_built_function builtin.List = true
 is_built_function builtin.Tuple = true
 is_built_function builtin.Dict = false
 is_built_function builtin.Min = true
@@ -53,7 +53,7 @@ is_built_expression p (expression.Name word) = true
 is_built_expression p (expression.Builtin function) = true
 is_built_expression p (expression.Constant value) = true
 is_built_expression p (expression.Tuple items) = true
-is_built_expression p (expression.List items) = false
+is_built_expression p (expression.List items) = true
 is_built_expression p (expression.Dict items) = false
 is_built_expression p (expression.Lambda function) = true
 is_built_expression p (expression.Conditional first test last) = true
@@ -70,7 +70,7 @@ is_built_expression p (expression.Call callee arguments) = is_built_callee (slic
 abbrev pub is_built_target : Target → Bool
 is_built_target (target.Name word) = true
 is_built_target (target.Attribute receiver word) = false
-is_built_target (target.Item receiver key) = false
+is_built_target (target.Item receiver key) = true
 is_built_target (target.Tuple targets) = true
 
 abbrev pub is_built_statement : Statement → Bool
@@ -88,6 +88,8 @@ is_built_statement (statement.Global names) = true
 is_built_statement (statement.Nonlocal names) = true
 is_built_statement (statement.If test body otherwise) = true
 is_built_statement (statement.While test body) = true
+is_built_statement (statement.For target source body) = true
+is_built_statement (statement.Delete target) = true
 is_built_statement (statement.Try body handlers last) = true
 is_built_statement (statement.Except kinds name body) = true
 is_built_statement (statement.Def function) = true

@@ -31,12 +31,9 @@ fn asked_line(alloc: Global) -> Result<(String, bool, bool), NoMemory> {
     values.push(Value::Own(3))?;
     values.push(Value::Plain(Plain::Bool(true)))?;
     let next = print(alloc, &mut stack, &mut printed, values)?;
-    let asked = matches!(next, Next::Perform(Operation::Str(Value::Own(3))));
+    let asked = asks_third(&next);
     let answer = Completion::Gives(text(alloc, "x")?);
-    let Some(Frame::Printing(PrintingFrame::Print { waiting })) = stack.pop() else {
-        return Err(NoMemory);
-    };
-    let frame = PrintingFrame::Print { waiting };
+    let frame = printing_frame(stack.pop())?;
     let next = give_printing(alloc, &mut stack, &mut printed, frame, answer)?;
     Ok((printed, asked, is_none(&next)))
 }
@@ -46,10 +43,47 @@ fn text(alloc: Global, text: &str) -> Result<Value, NoMemory> {
 }
 
 fn is_none(next: &Next) -> bool {
-    matches!(
-        next,
-        Next::Give(Completion::Gives(Value::Plain(Plain::None)))
-    )
+    match next {
+        Next::Give(completion) => gives_none(completion),
+        _ => false,
+    }
+}
+
+fn gives_none(completion: &Completion) -> bool {
+    match completion {
+        Completion::Gives(value) => is_none_value(value),
+        _ => false,
+    }
+}
+
+fn is_none_value(value: &Value) -> bool {
+    match value {
+        Value::Plain(plain) => matches!(plain, Plain::None),
+        _ => false,
+    }
+}
+
+/// Whether the third cell is asked for its text.
+fn asks_third(next: &Next) -> bool {
+    match next {
+        Next::Perform(operation) => is_str_of_third(operation),
+        _ => false,
+    }
+}
+
+fn is_str_of_third(operation: &Operation) -> bool {
+    match operation {
+        Operation::Str(value) => matches!(value, Value::Own(3)),
+        _ => false,
+    }
+}
+
+/// What waits for a text.
+fn printing_frame(frame: Option<Frame>) -> Result<PrintingFrame, NoMemory> {
+    match frame {
+        Some(Frame::Printing(frame)) => Ok(frame),
+        _ => Err(NoMemory),
+    }
 }
 
 #[test]

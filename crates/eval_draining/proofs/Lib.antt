@@ -1,0 +1,2 @@
+pub mod AskingNext
+pub mod Growing
