@@ -1,5 +1,5 @@
 -- The parts of a text, one behind the other.
-use Rattle.std.proofs.Common.{◌≡◌, ◌≤◌, ◌<◌, ◌+◌, ◌++◌, [], ◌∷◌, ℕ, suc, Bool, true, false, List, Option, Some, None, Result, Ok, Err, drop, length, codes, nat_lt, refl, sym, ◌∙◌, ap, arith, subst, zero, option_map, slice_get}
+use Rattle.std.proofs.Common.{◌≡◌, ◌≤◌, ◌+◌, ◌++◌, [], ◌∷◌, ℕ, suc, Bool, true, false, List, Option, Some, None, Result, Ok, Err, drop, length, codes, nat_lt, refl, sym, ◌∙◌, ap, arith, subst, zero, option_map, slice_get}
 use Rattle.std.proofs.lemmas.List.{drop_all, length-append}
 use Rattle.std.specs.Bool.{⊤}
 use Rattle.rp_base.specs.declared.ends.OpEnd.{OpEnd}
@@ -15,7 +15,7 @@ use Rattle.py_store.specs.EntryLists.{EntryList}
 use Rattle.side_trees.specs.Trees.{Return, Stop}
 use Rattle.language_rules.specs.Codes.{Code, Completion, Then, Step, Ends, Leaves, Asks}
 use Rattle.language_rules.specs.Going.{RuleTree, operates}
-use Rattle.language_rules.specs.Printing.{adds_part, gives_text, made_step, on_text, prints_entries, prints_items, repr_step, text_ends}
+use Rattle.language_rules.specs.Printing.{adds_part, gives_text, on_text, prints_entries, prints_items, repr_step, text_ends}
 use Rattle.eval_texts.specs.Texts.{Adds, Makes, PartComes, behind_entry, behind_item, behind_position, behind_value, first_of_dict, first_of_list, item_text}
 
 -- ---- what a computation makes
@@ -125,7 +125,7 @@ entries_end n shape i entries made l = ap (prints_entries n shape i made) (drop_
 pub past_entries : (n shape i : ℕ) (entries : EntryList) (made : List ℕ) → length entries ≤ i → prints_entries n shape (suc i) made (drop (suc i) entries) ≡ prints_entries n shape (length entries) made (drop (length entries) entries)
 past_entries n shape i entries made l = entries_end n shape (suc i) entries made (omega (arith, l)) ∙ sym (entries_end n shape (length entries) entries made (omega arith))
 
-some_same : (A : Type 0) (x y : A) → Some x ≡ Some y → x ≡ y
+pub some_same : (A : Type 0) (x y : A) → Some x ≡ Some y → x ≡ y
 some_same A x y h = ap (λ (o : Option A). elim o [ Some z ↦ z | None ↦ x ]) h
 
 pub entry_there : (entries : EntryList) (i : ℕ) (k : Plain) (v : Value) → option_map (λ e. e.0) (slice_get entries i) ≡ Some k → option_map (λ e. e.1) (slice_get entries i) ≡ Some v → drop i entries ≡ (k, v) ∷ drop (suc i) entries

@@ -1,5 +1,5 @@
 -- Texts that are made over a stack, with what is being printed.
-use Rattle.std.proofs.Common.{◌≡◌, ◌==◌, ◌||◌, ◌++◌, [], ◌∷◌, ℕ, Bool, true, false, List, Option, Some, None, Result, Ok, Err, IfOk, reverse, refl, sym, ◌∙◌, ap, subst}
+use Rattle.std.proofs.Common.{◌≡◌, ◌==◌, ◌||◌, ◌++◌, [], ◌∷◌, ℕ, Bool, true, false, List, Option, Some, drop, option_map, slice_get, zero, suc, Result, Ok, Err, IfOk, reverse, refl, sym, ◌∙◌, ap, subst}
 use Rattle.std.proofs.lemmas.List.{reverse-append}
 use Rattle.std.proofs.lemmas.List.Folds.{list_any-append}
 use Rattle.std.specs.List.{list_any}
@@ -14,16 +14,16 @@ use Rattle.rp_base.specs.declared.value.Value.TheVariants as value
 use Rattle.object_operations.specs.declared.operation.Operation.TheVariants as operation
 use Rattle.py_ast.specs.declared.program.Program.{Program}
 use Rattle.py_store.specs.Cells.{cell_of}
+use Rattle.py_store.specs.EntryLists.{EntryList}
 use Rattle.py_store.specs.declared.cell.Cell.{Cell}
 use Rattle.side_trees.proofs.BindLaw.{bind-bind}
 use Rattle.side_trees.specs.Trees.{Return, Stop, bind}
 use Rattle.language_rules.specs.Answers.{asked}
 use Rattle.language_rules.specs.AtOnce.{stated}
-use Rattle.language_rules.specs.Codes.{Code, Completion, Gives, Give, Then}
+use Rattle.language_rules.specs.Codes.{Code, Completion, DictText, Gives, Give, Then}
 use Rattle.language_rules.specs.Going.{RuleTree, changes, on_cell, operates, reads_cell, text}
 use Rattle.language_rules.specs.Kinds.{is_reference}
-use Rattle.language_rules.specs.Printing.{begins_printing, ends_printing, gives_text, prints_cell, repr_step}
-use Rattle.language_rules.specs.Rules.{expand}
+use Rattle.language_rules.specs.Printing.{begins_printing, ends_printing, gives_text, prints_cell, prints_entries, repr_step}
 use Rattle.language_rules.specs.Running.{runs}
 use Rattle.language_rules.specs.States.{State}
 use Rattle.eval_frames.proofs.Operating.{code_goes_on}
@@ -33,10 +33,10 @@ use Rattle.eval_frames.specs.declared.list_frames.TextFrame.{TextFrame}
 use Rattle.eval_frames.specs.declared.list_frames.TextFrame.TheVariants as text_frame
 use Rattle.eval_frames.specs.declared.next.Next.{Next}
 use Rattle.eval_frames.specs.declared.next.Next.TheVariants as next
-use Rattle.eval_frames.specs.ListFrames.{through_text}
 use Rattle.eval_frames.specs.Meaning.{Means, MeansIn, MeansOver, meant, rest, resume}
+use Rattle.eval_texts.proofs.PartLaws.{some_same}
 use Rattle.eval_texts.specs.Shown.{shown}
-use Rattle.eval_texts.specs.Texts.{GoesOnAs, IsLeft, Makes, MeansPrinting, item_text, printing_in}
+use Rattle.eval_texts.specs.Texts.{GoesOnAs, IsLeft, Makes, MeansPrinting, first_of_dict, item_text, printing_in, value_of_dict}
 
 -- ---- an item that is asked
 
@@ -172,6 +172,17 @@ while_printing t u cells printing (Ok n) now stack e h = λ fixed texts units pr
     ap (λ (x : RuleTree). runs units (bind x (rest (reverse stack))) (shown fixed cells texts printing) printed) e ∙ h (printing_in fixed printing) texts units printed
 while_printing t u cells printing (Err x) now stack e h = tt
 
-pub of_every : (t : ℕ → RuleTree) (number : ℕ) (result : Result Next NoMemory) (stack : List Frame) → IfOk result (λ n. (number : ℕ) (stack : List Frame) → Means stack n (t number) stack) → IfOk result (λ n. Means stack n (t number) stack)
-of_every t number (Ok n) stack h = h number stack
-of_every t number (Err x) stack h = tt
+-- ---- the value of a dict that is asked
+
+value_placed : (n shape i j : ℕ) (entries : EntryList) (v : Value) (made : List ℕ) (P : RuleTree → Type 0) → option_map (λ e. e.1) (slice_get entries j) ≡ Some v
+    → ((next : List ℕ → RuleTree) → P (item_text (λ r. DictText n shape i made r) made v next)) → P (first_of_dict n shape i (drop j entries) made)
+value_placed n shape i j [] v made P is h = cc
+value_placed n shape i zero (e ∷ es) v made P is h = subst (λ (w : Value). P (value_of_dict n shape i w es made)) (sym (some_same Value e.1 v is)) (h (λ after. prints_entries n shape (suc i) after es))
+value_placed n shape i (suc j) (e ∷ es) v made P is h = value_placed n shape i j es v made P is h
+
+pub value_asked : (n shape i : ℕ) (entries : EntryList) (v : Value) (made : List ℕ) (result : Result Next NoMemory) (now stack : List Frame) → option_map (λ e. e.1) (slice_get entries i) ≡ Some v
+    → IfOk result (λ nx. (f : Completion → Code) (m : List ℕ) (next : List ℕ → RuleTree) (s : State) → GoesOnAs (text_frame.Dict n shape i made) f → MeansIn s now nx (item_text f m v next) stack)
+    → IfOk result (λ nx. (s : State) → MeansIn s now nx (first_of_dict n shape i (drop i entries) made) stack)
+value_asked n shape i entries v made (Ok nx) now stack is h = λ s.
+    value_placed n shape i i entries v made (λ t. MeansIn s now nx t stack) is (λ next. h (λ r. DictText n shape i made r) made next s (λ r. refl))
+value_asked n shape i entries v made (Err x) now stack is h = tt

@@ -1,5 +1,5 @@
 -- What a text that is made comes to, part by part.
-use Rattle.std.specs.Prelude.{◌≡◌, ◌+◌, ◌++◌, ℕ, suc, nat_lt, length, List, [], ◌∷◌, drop, reverse, Bool, true, false, Option, Some, None, Result, Ok, Err}
+use Rattle.std.specs.Prelude.{◌≡◌, ◌==◌, ◌+◌, ◌++◌, ℕ, suc, nat_lt, length, List, [], ◌∷◌, drop, reverse, Bool, true, false, Option, Some, None, Result, Ok, Err}
 use Rattle.std.specs.Bool.{⊤}
 use Rattle.rp_base.specs.declared.ends.OpEnd.{OpEnd}
 use Rattle.rp_base.specs.declared.ends.OpEnd.TheVariants as op_end
@@ -96,6 +96,13 @@ behind_entry n shape i entries false made = first_of_dict n shape i (drop i entr
 abbrev pub left_of_dict : ℕ → ℕ → EntryList → Option ℕ → List ℕ → RuleTree
 left_of_dict n shape entries None made = gives_text made
 left_of_dict n shape entries (Some i) made = first_of_dict n shape i (drop i entries) made
+
+-- behind the text of the value at a position, where keys neither came nor went
+abbrev pub on_same_keys : ℕ → ℕ → ℕ → List ℕ → List ℕ → EntryList → ℕ → RuleTree
+on_same_keys n shape i printed t entries now = elim (now == shape) [
+  | true ↦ adds_part printed t (λ after. prints_entries n shape (suc i) after (drop (suc i) entries))
+  | false ↦ Stop beyond.Changed
+]
 
 -- ---- answers
 

@@ -11,19 +11,20 @@ ghost use Rattle.language_rules.specs.Perform.{repr_rule, str_rule};
 ghost use Rattle.language_rules.specs.Printing.{cell_repr, cell_str, repr_of_cell, str_of_cell};
 ghost use Rattle.language_rules.specs.States.{State};
 ghost use Rattle.eval_texts.specs.Shown.{shown};
-ghost use Rattle.eval_texts.specs.Texts.{IsLeft, MeansPrinting, first_of_list};
+ghost use Rattle.eval_texts.specs.Texts.{IsLeft, MeansPrinting, first_of_dict, first_of_list};
 
+use crate::dicts::put_entries;
 use crate::lists::put_items;
 use crate::ranges::range_text;
-use crate::waiting::{ask_item, given, left};
+use crate::waiting::{ask_item, ask_value, given, left};
 use eval_frames::{Frame, Next, TextFrame};
-use py_store::{Cell, Store};
+use py_store::{Cell, Entries, Store};
 use rp_base::{Beyond, NoMemory, OpEnd, Value};
 use sqlite_items::Items;
 use std::alloc::Global;
 
-/// `repr` of an own object (Python Library Reference, "Built-in Functions", `repr`). Dicts and instances are not built
-/// yet, nor is an item that is a tuple which holds a reference.
+/// `repr` of an own object (Python Library Reference, "Built-in Functions", `repr`). Instances are not built yet, nor
+/// is an item that is a tuple which holds a reference.
 pub fn repr_of(
     alloc: Global,
     stack: &mut Vec<Frame>,
@@ -92,7 +93,9 @@ fn text_of_cell(
 {
     match cell {
         Cell::List(items) => text_of_list(alloc, stack, printing, number, items.as_slice()),
-        Cell::Dict { .. } => Err(NoMemory),
+        Cell::Dict { entries, shape } => {
+            text_of_dict(alloc, stack, printing, number, entries, *shape)
+        }
         Cell::Range { start, stop, step } => { Ok(given(range_text(alloc, *start, *stop, *step)?)) }
         Cell::Instance { .. } => Err(NoMemory),
         Cell::Namespace { .. } => Ok(Next::Leave(Beyond::Namespace)),
@@ -164,6 +167,65 @@ fn ask_first_item(
     printing.push(list)?;
     stack.push(Frame::Text(TextFrame::End))?;
     ask_item(alloc, stack, list, items, at, made)
+}
+
+/// The text of a dict. One whose printing is under way is not printed again.
+fn text_of_dict(
+    alloc: Global,
+    stack: &mut Vec<Frame>,
+    printing: &mut Items<u32>,
+    dict: u32,
+    entries: &Entries,
+    shape: u64,
+) -> Result<Next, NoMemory>
+    ensures means { IfOk result (λ n. MeansPrinting printing.old printing.new stack.new.items n (repr_of_cell dict (cell.Dict entries.now shape)) stack.old.items) }
+    ensures light { IfOk result (λ n. IsLight stack.new.items n stack.old.items) }
+{
+    if printing.as_slice().contains(&dict) {
+        Ok(Next::Leave(Beyond::CyclicRepr))
+    } else {
+        begin_dict(alloc, stack, printing, dict, entries, shape)
+    }
+}
+
+fn begin_dict(
+    alloc: Global,
+    stack: &mut Vec<Frame>,
+    printing: &mut Items<u32>,
+    dict: u32,
+    entries: &Entries,
+    shape: u64,
+) -> Result<Next, NoMemory>
+    requires { list_any (λ m. m == dict) printing.old ≡ false }
+    ensures means { IfOk result (λ n. MeansPrinting printing.old printing.new stack.new.items n (repr_of_cell dict (cell.Dict entries.now shape)) stack.old.items) }
+    ensures light { IfOk result (λ n. IsLight stack.new.items n stack.old.items) }
+{
+    let mut made = String::from_str(alloc, "{")?;
+    match put_entries(entries, 0, &mut made) {
+        Ok(None) => Ok(given(made)),
+        Ok(Some(at)) => ask_first_value(alloc, stack, printing, dict, shape, entries, at, made),
+        Err(end) => left_printing(printing, dict, end),
+    }
+}
+
+/// The printing is under way while a value is asked.
+fn ask_first_value(
+    alloc: Global,
+    stack: &mut Vec<Frame>,
+    printing: &mut Items<u32>,
+    dict: u32,
+    shape: u64,
+    entries: &Entries,
+    at: usize,
+    made: String,
+) -> Result<Next, NoMemory>
+    ensures printing { IfOk result (λ n. printing.new ≡ printing.old ++ dict ∷ []) }
+    ensures means { IfOk result (λ n. (s : State) → MeansIn s stack.new.items n (first_of_dict dict shape at (drop at entries.now) (string_bytes made)) (stack.old.items ++ frame.Text text_frame.End ∷ [])) }
+    ensures light { IfOk result (λ n. IsLight stack.new.items n stack.old.items) }
+{
+    printing.push(dict)?;
+    stack.push(Frame::Text(TextFrame::End))?;
+    ask_value(alloc, stack, dict, shape, entries, at, made)
 }
 
 /// The printing is under way where the text is too long.

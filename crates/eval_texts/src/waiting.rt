@@ -13,13 +13,14 @@ ghost use Rattle.language_rules.specs.Searching.{reads_dict, reads_list};
 ghost use Rattle.language_rules.specs.States.{State};
 ghost use Rattle.eval_frames.specs.declared.next.Next.TheVariants as next;
 ghost use Rattle.eval_texts.specs.Shown.{shown};
-ghost use Rattle.eval_texts.specs.Texts.{GoesOnAs, IsLeft, IsLightUnlessTold, IsTextTold, first_of_list, item_text, left_of_list};
+ghost use Rattle.eval_texts.specs.Texts.{GoesOnAs, IsLeft, IsLightUnlessTold, IsTextTold, first_of_dict, first_of_list, item_text, left_of_list, on_same_keys};
 
+use crate::dicts::put_entries_behind;
 use crate::lists::put_items_behind;
 use crate::parts::{put_part, reopened};
 use eval_frames::{Frame, Next, TextFrame, is_reference, operate};
 use object_operations::{Completion, Operation};
-use py_store::{Cell, Store};
+use py_store::{Cell, Entries, Store};
 use rp_base::{Beyond, NoMemory, OpEnd, Plain, Text, Value};
 use sqlite_items::Items;
 use std::alloc::Global;
@@ -102,10 +103,35 @@ pub(crate) fn ask_item(
     }
 }
 
+/// The value of a dict at a position is asked, behind what is made.
+pub(crate) fn ask_value(
+    alloc: Global,
+    stack: &mut Vec<Frame>,
+    dict: u32,
+    shape: u64,
+    entries: &Entries,
+    at: usize,
+    made: String,
+) -> Result<Next, NoMemory>
+    ensures means { IfOk result (λ n. (s : State) → MeansIn s stack.new.items n (first_of_dict dict shape at (drop at entries.now) (string_bytes made)) stack.old.items) }
+    ensures light { IfOk result (λ n. load stack.new.items n ≤ 3 * length stack.old.items + 3) }
+{
+    if at >= entries.len() {
+        return Ok(Next::Leave(Beyond::NotYet));
+    }
+    let frame = TextFrame::Dict {
+        dict,
+        shape,
+        position: at as u64,
+        made: Text::from_string(made),
+    };
+    ask_text(alloc, stack, frame, entries.value_at(at))
+}
+
 // ---- what waits
 
-/// Goes on with the text of an item, or ends a printing (Python Library Reference, "Built-in Functions", `repr`). Of dicts
-/// nothing is built yet.
+/// Goes on with the text of an item, or ends a printing (Python Library Reference, "Built-in Functions", `repr`). An item
+/// that is a tuple which holds a reference is not built yet.
 pub fn give_text(
     alloc: Global,
     stack: &mut Vec<Frame>,
@@ -123,7 +149,12 @@ pub fn give_text(
             position,
             made,
         } => give_list(alloc, stack, store, list, position, made, completion),
-        TextFrame::Dict { .. } => Err(NoMemory),
+        TextFrame::Dict {
+            dict,
+            shape,
+            position,
+            made,
+        } => give_dict(alloc, stack, store, dict, shape, position, made, completion),
         TextFrame::End => {
             printing.pop();
             Ok(Next::Give(completion))
@@ -228,6 +259,113 @@ fn print_behind(
     match put_items_behind(items, position, &mut made) {
         Ok(None) => Ok(given(made)),
         Ok(Some(at)) => ask_item(alloc, stack, list, items, at, made),
+        Err(end) => left(end),
+    }
+}
+
+/// The text of the value of a dict at a position. `Beyond(Changed)` where keys came or went.
+fn give_dict(
+    alloc: Global,
+    stack: &mut Vec<Frame>,
+    store: &Store,
+    dict: u32,
+    shape: u64,
+    position: u64,
+    made: Text,
+    completion: Completion,
+) -> Result<Next, NoMemory>
+    ensures means { IfOk result (λ n. (fixed : State) (texts : List Program) → MeansIn (stated fixed store.now.cells texts) stack.new.items n (dict_text_rule dict shape position made completion) stack.old.items) }
+    ensures light { IfOk result (λ n. IsLight stack.new.items n stack.old.items) }
+{
+    match told_text(completion) {
+        Ok(text) => go_on_in_dict(alloc, stack, store, dict, shape, position, &made, &text),
+        Err(next) => Ok(next),
+    }
+}
+
+fn go_on_in_dict(
+    alloc: Global,
+    stack: &mut Vec<Frame>,
+    store: &Store,
+    dict: u32,
+    shape: u64,
+    position: u64,
+    made: &Text,
+    text: &Text,
+) -> Result<Next, NoMemory>
+    ensures means { IfOk result (λ n. (fixed : State) (texts : List Program) → MeansIn (stated fixed store.now.cells texts) stack.new.items n (reads_dict dict (on_same_keys dict shape position made.now text.now)) stack.old.items) }
+    ensures light { IfOk result (λ n. IsLight stack.new.items n stack.old.items) }
+{
+    match store.get(dict) {
+        Some(
+            Cell::Dict {
+                entries,
+                shape: now,
+            },
+        ) => add_value(
+            alloc, stack, dict, shape, *now, entries, position, made, text,
+        ),
+        _ => Ok(Next::Leave(Beyond::NotYet)),
+    }
+}
+
+/// The text of a value is added, where the keys are as they were.
+fn add_value(
+    alloc: Global,
+    stack: &mut Vec<Frame>,
+    dict: u32,
+    shape: u64,
+    now: u64,
+    entries: &Entries,
+    position: u64,
+    made: &Text,
+    text: &Text,
+) -> Result<Next, NoMemory>
+    ensures means { IfOk result (λ n. (s : State) → MeansIn s stack.new.items n (on_same_keys dict shape position made.now text.now entries.now now) stack.old.items) }
+    ensures light { IfOk result (λ n. IsLight stack.new.items n stack.old.items) }
+{
+    if now == shape {
+        put_value(alloc, stack, dict, shape, entries, position, made, text)
+    } else {
+        Ok(Next::Leave(Beyond::Changed))
+    }
+}
+
+fn put_value(
+    alloc: Global,
+    stack: &mut Vec<Frame>,
+    dict: u32,
+    shape: u64,
+    entries: &Entries,
+    position: u64,
+    made: &Text,
+    text: &Text,
+) -> Result<Next, NoMemory>
+    ensures means { IfOk result (λ n. (s : State) → MeansIn s stack.new.items n (adds_part made.now text.now (λ after. prints_entries dict shape (suc position) after (drop (suc position) entries.now))) stack.old.items) }
+    ensures light { IfOk result (λ n. IsLight stack.new.items n stack.old.items) }
+{
+    let mut whole = reopened(alloc, made)?;
+    match put_part(text.as_str(), &mut whole) {
+        Ok(()) => print_entries_behind(alloc, stack, dict, shape, entries, position, whole),
+        Err(end) => left(end),
+    }
+}
+
+fn print_entries_behind(
+    alloc: Global,
+    stack: &mut Vec<Frame>,
+    dict: u32,
+    shape: u64,
+    entries: &Entries,
+    position: u64,
+    mut made: String,
+) -> Result<Next, NoMemory>
+    ensures means { IfOk result (λ n. (s : State) → MeansIn s stack.new.items n (prints_entries dict shape (suc position) (string_bytes made) (drop (suc position) entries.now)) stack.old.items) }
+    ensures light { IfOk result (λ n. IsLight stack.new.items n stack.old.items) }
+{
+    match put_entries_behind(entries, position, &mut made) {
+        Ok(None) => Ok(given(made)),
+        Ok(Some(at)) => ask_value(alloc, stack, dict, shape, entries, at, made),
         Err(end) => left(end),
     }
 }

@@ -1,4 +1,4 @@
-use Rattle.std.proofs.Common.{◌+◌, ◌∙◌, ◌≤◌, subst, ap, drop, length, string_bytes, suc, sym, Option, ℕ, add-one}
+use Rattle.std.proofs.Common.{◌+◌, ◌∙◌, ◌≤◌, subst, ap, drop, string_bytes, suc, sym, Option, ℕ, add-one}
 use Rattle.language_rules.specs.Printing.{prints_entries}
 use Rattle.eval_texts.specs.Texts.{left_of_dict}
 use Rattle.eval_texts.proofs.PartLaws.{makes_as, past_entries}

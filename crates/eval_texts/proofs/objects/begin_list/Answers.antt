@@ -1,4 +1,4 @@
-use Rattle.std.proofs.Common.{◌∙◌, ◌∷◌, [], ap, codes, drop, refl, string_bytes, subst, sym, List, None, Some, Ok, Option, ℕ}
+use Rattle.std.proofs.Common.{◌∙◌, ap, codes, drop, string_bytes, subst, sym, List, None, Some, Ok, Option, ℕ}
 use Rattle.language_rules.specs.Going.{RuleTree}
 use Rattle.language_rules.specs.Printing.{prints_items}
 use Rattle.eval_frames.specs.declared.next.Next.{Next}

@@ -1,4 +1,4 @@
-use Rattle.std.proofs.Common.{◌≡◌, Some, sym, ◌∙◌}
+use Rattle.std.proofs.Common.{◌≡◌, Some}
 use Rattle.py_store.specs.Cells.{cell_of}
 use Rattle.language_rules.specs.Printing.{repr_of_cell, str_of_cell}
 use Rattle.eval_texts.proofs.StackLaws.{cell_read}
