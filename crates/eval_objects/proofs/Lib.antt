@@ -1,3 +1,5 @@
+pub mod CellSteps
 pub mod FunctionLemmas
+pub mod IteratorLemmas
 pub mod PrivateNames
 pub mod SpecialLemmas

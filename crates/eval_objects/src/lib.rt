@@ -2,13 +2,17 @@
 //! object.
 #![tactic(auto)]
 
+mod advancing;
 mod attributes;
 mod comparing;
 mod exceptions;
 mod functions;
+mod iterators;
 mod performing;
 mod plain_receivers;
 mod printing;
+mod sources;
 mod specials;
+mod upcoming;
 
 pub use performing::perform;

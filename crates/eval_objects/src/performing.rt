@@ -33,7 +33,21 @@ pub fn perform(
     ensures means { IfOk result (λ next. (fixed : State) → MeansOver (stated fixed store.old.cells texts.now) (stated fixed store.new.cells texts.now) stack.new.items next (perform operation) stack.old.items) }
     ensures light { IfOk result (λ next. IsLight stack.new.items next stack.old.items) }
 {
-    answer(alloc, store, &operation)
+    match &operation {
+        Operation::Special {
+            receiver,
+            special,
+            arguments,
+        } => special_operation(
+            alloc,
+            stack,
+            store,
+            receiver,
+            *special,
+            arguments.as_slice(),
+        ),
+        _ => answer(alloc, store, &operation),
+    }
 }
 
 /// The answer of an operation that changes nothing.
@@ -53,11 +67,7 @@ fn answer(alloc: Global, store: &Store, operation: &Operation) -> Result<Next, N
             delete_attribute(alloc, store, receiver, name.as_str())
         }
         Operation::Call { .. } => Err(NoMemory),
-        Operation::Special {
-            receiver,
-            special,
-            arguments,
-        } => special_operation(alloc, store, receiver, *special, arguments.as_slice()),
+        Operation::Special { .. } => Err(NoMemory),
         Operation::Cmp {
             receiver,
             op,
