@@ -22,7 +22,7 @@ use Rattle.eval_frames.specs.Meaning.{Means, MeansIn, rest}
 use Rattle.eval_ranges.proofs.SpecialLemmas.{Plainly, Within, in_state}
 use Rattle.eval_objects.specs.Iterators.{ComesOn, IsIter, IsIterCell, asks_next, comes_up, still_of_cell}
 use Rattle.eval_objects.specs.declared.upcoming.Upcoming.{Upcoming}
-use Rattle.eval_objects.proofs.CellSteps.{Over, at_cell}
+use Rattle.eval_ranges.proofs.CellSteps.{Over, at_cell}
 
 pub iterator_is_there : (cells : List Cell) (n : ℕ) → IsIter cells n → (0 < n) × (n ≤ length cells)
 iterator_is_there cells n h = is_there IsIterCell (λ none. none) cells n h

@@ -1,4 +1,3 @@
-pub mod CellSteps
 pub mod FunctionLemmas
 pub mod IteratorLemmas
 pub mod PrivateNames

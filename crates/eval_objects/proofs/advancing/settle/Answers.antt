@@ -4,7 +4,7 @@ use Rattle.language_rules.specs.Answers.{gives}
 use Rattle.language_rules.specs.Going.{raises, reads_cell}
 use Rattle.eval_objects.specs.Iterators.{comes_up, ended, stepped}
 use Rattle.eval_objects.specs.declared.upcoming.Upcoming.{Upcoming}
-use Rattle.eval_objects.proofs.CellSteps.{Over}
+use Rattle.eval_ranges.proofs.CellSteps.{Over}
 use Rattle.eval_objects.proofs.IteratorLemmas.{set_there}
 use Rattle.eval_objects.proofs.advancing.settle.Goals as goal
 
