@@ -63,6 +63,7 @@ fn is_built_expression(program: &Program, expression: &Expression) -> bool
         | Expression::Constant(_)
         | Expression::Tuple(_)
         | Expression::List(_)
+        | Expression::Dict(_)
         | Expression::Conditional { .. }
         | Expression::Or(_)
         | Expression::And(_)
@@ -74,7 +75,6 @@ fn is_built_expression(program: &Program, expression: &Expression) -> bool
         | Expression::Lambda(_) => true,
         Expression::Call { callee, .. } => is_built_callee(program, *callee),
         Expression::Attribute { receiver, .. } => names_handler(program, *receiver),
-        Expression::Dict(_) => false,
     }
 }
 
@@ -128,8 +128,9 @@ fn is_built_function(function: Builtin) -> bool
         | Builtin::Max
         | Builtin::Sum
         | Builtin::Range
-        | Builtin::List => true,
-        Builtin::Dict | Builtin::Sorted => false,
+        | Builtin::List
+        | Builtin::Dict => true,
+        Builtin::Sorted => false,
     }
 }
 

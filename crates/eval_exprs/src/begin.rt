@@ -24,7 +24,7 @@ use py_store::{Cell, Store};
 use rp_base::{Beyond, BinaryOp, NoMemory, Plain, Text, UnaryOp, Value};
 use std::alloc::Global;
 
-/// An expression begins, behind its unit. Displays of dicts are not built yet.
+/// An expression begins, behind its unit.
 pub fn begin_expression(
     alloc: Global,
     stack: &mut Vec<Frame>,
@@ -69,7 +69,7 @@ pub fn begin_expression(
             begin_attribute(alloc, stack, texts, env, *receiver, name)
         }
         Expression::List(items) => begin_list(alloc, stack, store, env, items.as_slice()),
-        Expression::Dict(_) => Err(NoMemory),
+        Expression::Dict(items) => begin_dict(alloc, stack, store, env, items.as_slice()),
     }
 }
 
@@ -104,6 +104,19 @@ fn begin_list(
     ensures light { IfOk result (λ next. IsLight stack.new.items next stack.old.items) }
 {
     gather(alloc, stack, store, env, Gathering::List, items)
+}
+
+fn begin_dict(
+    alloc: Global,
+    stack: &mut Vec<Frame>,
+    store: &Store,
+    env: Env,
+    items: &[u32],
+) -> Result<Next, NoMemory>
+    ensures means { IfOk result (λ next. MeansAt store.now.cells stack.new.items next (expression_rule env (expression.Dict items.now)) stack.old.items) }
+    ensures light { IfOk result (λ next. IsLight stack.new.items next stack.old.items) }
+{
+    gather(alloc, stack, store, env, Gathering::Dict, items)
 }
 
 /// A function without a name.

@@ -1,11 +1,12 @@
-ghost use Rattle.std.specs.Prelude.{◌≡◌, ◌∷◌, [], IfOk, List, Some, option_map};
+ghost use Rattle.std.specs.Prelude.{◌≡◌, ◌≤◌, ◌++◌, ◌∷◌, [], IfOk, List, Some, length, option_map, reverse};
+ghost use Rattle.rp_base.specs.declared.value.Value.{Value};
 ghost use Rattle.py_ast.specs.declared.builtin.Builtin.TheVariants as builtin;
 ghost use Rattle.eval_frames.specs.declared.frame.Frame.{Frame};
 ghost use Rattle.eval_frames.specs.Meaning.{IsLight, Means};
 ghost use Rattle.language_rules.specs.Builtins.{builtin_rule};
 ghost use Rattle.language_rules.specs.Conversions.{new_range, only_ints, range_over};
-ghost use Rattle.language_rules.specs.Displays.{new_list};
-ghost use Rattle.eval_exprs.specs.Making.{the_int};
+ghost use Rattle.language_rules.specs.Displays.{entries_with, new_dict, new_list};
+ghost use Rattle.eval_exprs.specs.Making.{IsPut, plain_of, the_int};
 
 use builtin_functions::items_at_hand;
 use eval_frames::{Next, fail, is_reference};
@@ -14,7 +15,7 @@ use rp_base::{Beyond, ExcKind, NoMemory, Plain, Value};
 use sqlite_items::Items;
 use std::alloc::Global;
 
-/// The most items of a list.
+/// The most items of a list, and entries of a dict.
 const MOST_ITEMS: usize = 1_048_576;
 
 /// A new list of these items (Python Language Reference, "List displays"). `Leave(Size)` past 1,048,576 items.
@@ -38,6 +39,82 @@ pub fn values_of(alloc: Global, mut items: Items<Value>) -> Result<Values, NoMem
     }
     values.reverse();
     Ok(values)
+}
+
+/// A new dict of keys and values in turn (Python Language Reference, "Dictionary displays"). `Leave(Key)` for a key that is
+/// no plain value, `Leave(Size)` past 1,048,576 entries.
+pub(crate) fn new_dict(alloc: Global, items: Items<Value>) -> Result<Next, NoMemory>
+    ensures means { IfOk result (λ next. (stack : List Frame) → Means stack next (new_dict (entries_with [] items)) stack) }
+    ensures light { IfOk result (λ next. (stack : List Frame) → IsLight stack next stack) }
+{
+    let Some(entries) = entries_of(alloc, items)? else {
+        return Ok(Next::Leave(Beyond::Key));
+    };
+    if entries.len() > MOST_ITEMS {
+        return Ok(Next::Leave(Beyond::Size));
+    }
+    Ok(Next::Make(Cell::Dict { entries, shape: 0 }))
+}
+
+/// The entries of keys and values in turn; none where a key is no plain value.
+fn entries_of(alloc: Global, items: Items<Value>) -> Result<Option<Entries>, NoMemory>
+    ensures { IfOk result (λ entries. entries ≡ entries_with [] items) }
+{
+    let mut waiting = reversed(alloc, items)?;
+    let mut entries = Entries::new(alloc);
+    'entries: while let Some(key) = waiting.pop() {
+        let put = put_last(&mut entries, key, &mut waiting)?;
+        if !put {
+            return Ok(None);
+        }
+    }
+    Ok(Some(entries))
+}
+
+/// The entry of a key and the last value that waits; false where there is none, or the key is no plain value.
+fn put_last(entries: &mut Entries, key: Value, waiting: &mut Items<Value>) -> Result<bool, NoMemory>
+    ensures put { IfOk result (λ put. (before : List Value) → before ≡ waiting.old ++ key ∷ [] → IsPut entries.old (reverse before) put entries.new (reverse waiting.new)) }
+    ensures shorter { length waiting.new ≤ length waiting.old }
+{
+    match waiting.pop() {
+        Some(value) => put_entry(entries, key, value),
+        None => Ok(false),
+    }
+}
+
+/// The entry of a key and a value; false where the key is no plain value.
+fn put_entry(entries: &mut Entries, key: Value, value: Value) -> Result<bool, NoMemory>
+    ensures { IfOk result (λ put. (more : List Value) → IsPut entries.old (key ∷ value ∷ more) put entries.new more) }
+{
+    match plain_of(key) {
+        Some(key) => {
+            entries.put(key, value)?;
+            Ok(true)
+        }
+        None => Ok(false),
+    }
+}
+
+fn plain_of(value: Value) -> Option<Plain>
+    ensures { result ≡ plain_of value }
+{
+    match value {
+        Value::Plain(plain) => Some(plain),
+        Value::Tuple(_) => None,
+        Value::Own(_) => None,
+        Value::Proxy(_) => None,
+    }
+}
+
+/// The values, the last first.
+fn reversed(alloc: Global, mut values: Items<Value>) -> Result<Items<Value>, NoMemory>
+    ensures { IfOk result (λ waiting. reverse waiting ≡ values) }
+{
+    let mut waiting = Items::new(alloc);
+    'values: while let Some(value) = values.pop() {
+        waiting.push(value)?;
+    }
+    Ok(waiting)
 }
 
 /// `list` of nothing, or of what has its items at hand.

@@ -1,5 +1,5 @@
 -- A script begins.
-use Rattle.std.proofs.Common.{◌≡◌, ℕ, List, [], ◌∷◌, Option, Some, slice_get, length, refl, sym, subst, ◌∙◌, ap}
+use Rattle.std.proofs.Common.{◌≡◌, ℕ, List, [], ◌∷◌, Option, Some, slice_get, length, refl, sym, subst, ◌∙◌, ap, reverse}
 use Rattle.py_ast.specs.declared.node.Node.{Node}
 use Rattle.py_ast.specs.declared.node.Node.TheVariants as node
 use Rattle.py_ast.specs.declared.program.Program.{Program}
