@@ -19,7 +19,7 @@ use Rattle.py_store.specs.declared.cell.Cell.{Cell}
 use Rattle.side_trees.proofs.BindLaw.{bind-bind}
 use Rattle.side_trees.specs.Trees.{Return, Stop, bind}
 use Rattle.language_rules.proofs.RunLemmas.{goes_on, leaves}
-use Rattle.language_rules.specs.AtOnce.{Comes, Computes, stated}
+use Rattle.language_rules.specs.AtOnce.{Comes, stated}
 use Rattle.language_rules.specs.Codes.{AList, Completion, Env, Raises}
 use Rattle.language_rules.specs.Draining.{counted, goes_over, items_at_hand, unpacks, unpacks_kind}
 use Rattle.language_rules.specs.Going.{RuleTree, done, evaluates, fails, on_value}

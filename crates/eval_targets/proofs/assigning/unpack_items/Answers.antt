@@ -1,6 +1,4 @@
-use Rattle.std.proofs.Common.{List, length, subst}
-use Rattle.rp_base.specs.declared.value.Value.{Value}
-use Rattle.language_rules.specs.Draining.{counted}
+use Rattle.std.proofs.Common.{length}
 use Rattle.language_rules.specs.Targets.{assigns_each}
 use Rattle.eval_targets.proofs.Settling.{items_settled}
 use Rattle.eval_targets.proofs.assigning.unpack_items.Goals as goal
