@@ -269,16 +269,6 @@ pub list_unpacked : (env : Env) (v : Value) (targets copied : List ℕ) → copi
     → settled (assigning.Waits (waiting.Items env v copied)) ≡ goes_over AList v (counted (length targets) (assigns_each env targets))
 list_unpacked env v targets copied is = ap (λ (ts : List ℕ). settled (assigning.Waits (waiting.Items env v ts))) is
 
--- all items of a value, the last first
-pub items_settled : (n : ℕ) (f : List Value → RuleTree) (items turned : List Value) (a : Assigning) (before after : List Cell) (texts : List Program) (now stack : List Frame) (result : Result Next NoMemory)
-    → reverse turned ≡ items
-    → ((fixed : State) → GoesOnAs (stated fixed before texts) (counted n f (reverse turned)) (stated fixed after texts) (settled a))
-    → IfOk result (λ m. Means now m (settled a) stack)
-    → IfOk result (λ m. (fixed : State) → MeansOver (stated fixed before texts) (stated fixed after texts) now m (counted n f items) stack)
-items_settled n f items turned a before after texts now stack result is h g =
-    settled_next (counted n f items) a before after texts now stack result
-    (subst (λ (vs : List Value). (fixed : State) → GoesOnAs (stated fixed before texts) (counted n f vs) (stated fixed after texts) (settled a)) is h) g
-
 -- by whether there are as many items
 abbrev by_count : Bool → (List Value → RuleTree) → List Value → RuleTree
 by_count b f items = elim b [ true ↦ f items | false ↦ fails exception.ValueError (codes "wrong number of values") ]
