@@ -1,5 +1,5 @@
 -- What goes on with the value of a name.
-use Rattle.std.proofs.Common.{◌≡◌, ℕ, List, Option, Some, None, Result, Ok, Err, Bool, true, false, if◌then◌else◌, IfOk, reverse, slice_get, refl, sym, ◌∙◌, ap, subst}
+use Rattle.std.proofs.Common.{◌≡◌, ℕ, List, Option, Some, None, Result, Ok, Err, Bool, true, false, if◌then◌else◌, IfOk, reverse, refl, sym, ◌∙◌, ap, subst}
 use mathlib.Core.Path.{fun_ext}
 use Rattle.rp_base.specs.declared.ends.NoMemory.{NoMemory}
 use Rattle.rp_base.specs.declared.ends.OpEnd.{OpEnd}
@@ -8,10 +8,7 @@ use Rattle.rp_base.specs.declared.exceptions.Beyond.TheVariants as beyond
 use Rattle.rp_base.specs.declared.ends.OpEnd.TheVariants as op_end
 use Rattle.rp_base.specs.declared.operators.BinaryOp.{BinaryOp}
 use Rattle.rp_base.specs.declared.value.Value.{Value}
-use Rattle.py_ast.specs.declared.node.Node.{Node}
-use Rattle.py_ast.specs.declared.node.Node.TheVariants as node
 use Rattle.py_ast.specs.declared.program.Program.{Program}
-use Rattle.py_ast.specs.declared.target.Target.TheVariants as target
 use Rattle.py_store.specs.Bindings.{bound_value}
 use Rattle.py_store.specs.declared.cell.Cell.{Cell}
 use Rattle.py_store.specs.declared.cell.Cell.TheVariants as cell
@@ -23,11 +20,11 @@ use Rattle.language_rules.specs.AtOnce.{Comes, at_once, stated}
 use Rattle.language_rules.specs.Codes.{Completion, Env, Gives, Raises}
 use Rattle.language_rules.specs.Going.{RuleTree, done, looks, on_value}
 use Rattle.language_rules.specs.Names.{binds_name, Place, Own, Outer, Global, Missing, place_of, reads_at, reads_global, reads_name, reads_variable, unbound_local, unbound_name, value_or}
-use Rattle.language_rules.specs.Texts.{as_target, has_name, node_of}
+use Rattle.language_rules.specs.Texts.{has_name}
 use Rattle.language_rules.specs.Rules.{expand}
 use Rattle.language_rules.specs.Running.{prints_behind, runs}
 use Rattle.language_rules.specs.States.{State, cell_at, namespace_number}
-use Rattle.language_rules.specs.Targets.{augmented_assignment_rule, augments, augments_target}
+use Rattle.language_rules.specs.Targets.{augments}
 use Rattle.eval_frames.specs.declared.frame.Frame.{Frame}
 use Rattle.eval_frames.specs.declared.frame.Frame.TheVariants as frame
 use Rattle.eval_frames.specs.declared.frame.StatementFrame.TheVariants as statement_frame

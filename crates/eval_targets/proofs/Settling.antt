@@ -19,7 +19,7 @@ use Rattle.py_store.specs.declared.cell.Cell.{Cell}
 use Rattle.side_trees.proofs.BindLaw.{bind-bind}
 use Rattle.side_trees.specs.Trees.{Return, Stop, bind}
 use Rattle.language_rules.proofs.RunLemmas.{goes_on, leaves}
-use Rattle.language_rules.specs.AtOnce.{Comes, Computes, stated}
+use Rattle.language_rules.specs.AtOnce.{Comes, stated}
 use Rattle.language_rules.specs.Codes.{AList, Completion, Env, Raises}
 use Rattle.language_rules.specs.Draining.{counted, goes_over, items_at_hand, unpacks, unpacks_kind}
 use Rattle.language_rules.specs.Going.{RuleTree, done, evaluates, fails, on_value}
@@ -268,16 +268,6 @@ placed_as env f t form before after texts result is h = subst (λ (x : Target). 
 pub list_unpacked : (env : Env) (v : Value) (targets copied : List ℕ) → copied ≡ targets
     → settled (assigning.Waits (waiting.Items env v copied)) ≡ goes_over AList v (counted (length targets) (assigns_each env targets))
 list_unpacked env v targets copied is = ap (λ (ts : List ℕ). settled (assigning.Waits (waiting.Items env v ts))) is
-
--- all items of a value, the last first
-pub items_settled : (n : ℕ) (f : List Value → RuleTree) (items turned : List Value) (a : Assigning) (before after : List Cell) (texts : List Program) (now stack : List Frame) (result : Result Next NoMemory)
-    → reverse turned ≡ items
-    → ((fixed : State) → GoesOnAs (stated fixed before texts) (counted n f (reverse turned)) (stated fixed after texts) (settled a))
-    → IfOk result (λ m. Means now m (settled a) stack)
-    → IfOk result (λ m. (fixed : State) → MeansOver (stated fixed before texts) (stated fixed after texts) now m (counted n f items) stack)
-items_settled n f items turned a before after texts now stack result is h g =
-    settled_next (counted n f items) a before after texts now stack result
-    (subst (λ (vs : List Value). (fixed : State) → GoesOnAs (stated fixed before texts) (counted n f vs) (stated fixed after texts) (settled a)) is h) g
 
 -- by whether there are as many items
 abbrev by_count : Bool → (List Value → RuleTree) → List Value → RuleTree

@@ -1,10 +1,9 @@
-ghost use Rattle.std.specs.Prelude.{◌≡◌, IfOk, List, length, reverse};
+ghost use Rattle.std.specs.Prelude.{◌≡◌, IfOk, List, reverse};
 ghost use Rattle.side_trees.specs.Trees.{Return, bind};
 ghost use Rattle.eval_frames.specs.declared.frame.Frame.{Frame};
 ghost use Rattle.eval_frames.specs.Meaning.{IsLight, MeansOver};
 ghost use Rattle.eval_frames.specs.TargetFrames.{through_target};
 ghost use Rattle.language_rules.specs.AtOnce.{stated};
-ghost use Rattle.language_rules.specs.Draining.{counted};
 ghost use Rattle.language_rules.specs.Going.{RuleTree, done, evaluates, on_value};
 ghost use Rattle.language_rules.specs.Names.{binds_name};
 ghost use Rattle.language_rules.specs.States.{State};
@@ -13,7 +12,7 @@ ghost use Rattle.eval_targets.specs.Settled.{GoesOnAs, Placed, settled};
 
 use crate::places::{Place, place_at, place_value};
 use crate::settled::{Assigning, Waiting, failed, go_on};
-use crate::unpacking::{reversed, settle_items, unpack};
+use crate::unpacking::unpack;
 use eval_frames::{Frame, Next, answered, node_at};
 use eval_names::bind_name;
 use object_operations::{Completion, Env};
@@ -72,24 +71,6 @@ pub fn assign_each(
     ensures light { IfOk result (λ next. IsLight stack.new.items next stack.old.items) }
 {
     let assigning = settle_each(alloc, store, texts, env, targets, values)?;
-    go_on(alloc, stack, assigning)
-}
-
-/// All items of a value go to the targets, both in written order. ValueError for another number of items.
-pub fn unpack_items(
-    alloc: Global,
-    stack: &mut Vec<Frame>,
-    store: &mut Store,
-    texts: &[Program],
-    env: Env,
-    targets: &[u32],
-    items: Items<Value>,
-) -> Result<Next, NoMemory>
-    ensures means { IfOk result (λ next. (fixed : State) → MeansOver (stated fixed store.old.cells texts.now) (stated fixed store.new.cells texts.now) stack.new.items next (counted (length targets.now) (assigns_each env targets.now) items) stack.old.items) }
-    ensures light { IfOk result (λ next. IsLight stack.new.items next stack.old.items) }
-{
-    let values = reversed(alloc, items)?;
-    let assigning = settle_items(alloc, store, texts, env, targets, values)?;
     go_on(alloc, stack, assigning)
 }
 

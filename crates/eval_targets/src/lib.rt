@@ -13,7 +13,7 @@ mod settled;
 mod storing;
 mod unpacking;
 
-pub use assigning::{assign, assign_each, bind_value, settle, unpack_items};
+pub use assigning::{assign, assign_each, bind_value, settle};
 pub use augmenting::{begin_augmented, bind_augmented};
 pub use deleting::begin_delete;
 pub use giving::give_target;

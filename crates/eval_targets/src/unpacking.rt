@@ -39,7 +39,7 @@ pub(crate) fn unpack(
 }
 
 /// All items of a value, the last first, go to the targets, in written order. ValueError for another number of items.
-pub(crate) fn settle_items(
+fn settle_items(
     alloc: Global,
     store: &mut Store,
     texts: &[Program],
@@ -96,15 +96,4 @@ fn turned(values: Values) -> Items<Value>
     let mut turned = values.into_vec();
     turned.reverse();
     Items::from_vec(turned)
-}
-
-/// The values, the last first.
-pub(crate) fn reversed(alloc: Global, mut values: Items<Value>) -> Result<Items<Value>, NoMemory>
-    ensures { IfOk result (λ waiting. reverse waiting ≡ values) }
-{
-    let mut waiting = Items::new(alloc);
-    'values: while let Some(value) = values.pop() {
-        waiting.push(value)?;
-    }
-    Ok(waiting)
 }
