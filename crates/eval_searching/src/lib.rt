@@ -2,8 +2,11 @@
 #![tactic(auto)]
 
 mod asking;
+mod comparing;
 mod found;
+mod lengths;
 mod lists;
 mod searching;
 
+pub use comparing::{compare_lists, give_equality};
 pub use searching::{give_search, search_list};
