@@ -16,7 +16,7 @@ ghost use Rattle.eval_searching.specs.Compared.{after_equal, at_length, by_lengt
 
 use crate::asking::{ask_found, one_refers};
 use crate::found::found_at_once;
-use crate::lengths::{changed, number, told_length};
+use crate::lengths::{changed, following, number, told_length};
 use eval_exprs::told_truth;
 use eval_frames::{EqualityFrame, Frame, ListPair, Next, operate_over, special, special_with};
 use object_operations::{Completion, Special};
@@ -458,16 +458,6 @@ fn go_on_by(
         next_pair(alloc, stack, pair, length, next)
     } else {
         ask_end(alloc, stack, pair, length, false)
-    }
-}
-
-/// The position behind this one.
-fn following(position: u64) -> Result<u64, NoMemory>
-    ensures { IfOk result (λ n. n ≡ suc position) }
-{
-    match position.checked_add(1) {
-        Some(next) => Ok(next),
-        None => Err(NoMemory),
     }
 }
 

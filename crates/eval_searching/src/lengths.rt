@@ -1,4 +1,4 @@
-ghost use Rattle.std.specs.Prelude.{◌≡◌};
+ghost use Rattle.std.specs.Prelude.{◌≡◌, IfOk, suc};
 ghost use Rattle.language_rules.specs.Codes.{Gives};
 ghost use Rattle.language_rules.specs.PlainItems.{number};
 ghost use Rattle.eval_searching.specs.Compared.{HasLength, IsLengthTold, IsLightUnlessTold};
@@ -6,7 +6,7 @@ ghost use Rattle.eval_searching.specs.Compared.{HasLength, IsLengthTold, IsLight
 use eval_frames::Next;
 use object_operations::Completion;
 use py_store::{Cell, Store};
-use rp_base::{Beyond, Plain, Value};
+use rp_base::{Beyond, NoMemory, Plain, Value};
 
 /// The length that an object gave; else what comes next. `Beyond(NotYet)` for a value that is no length.
 pub(crate) fn told_length(completion: Completion) -> Result<u128, Next>
@@ -60,4 +60,14 @@ pub(crate) fn number(position: u64) -> Value
     ensures { result ≡ number position }
 {
     Value::Plain(Plain::Int(i128::from(position)))
+}
+
+/// The position behind this one. No list has more items than the greatest `u64`.
+pub(crate) fn following(position: u64) -> Result<u64, NoMemory>
+    ensures { IfOk result (λ n. n ≡ suc position) }
+{
+    match position.checked_add(1) {
+        Some(next) => Ok(next),
+        None => Err(NoMemory),
+    }
 }
