@@ -1,2 +1,4 @@
+pub mod AddLaws
+pub mod CompareLaws
 pub mod FoundLaws
 pub mod StateLaws

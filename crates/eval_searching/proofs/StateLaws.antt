@@ -27,6 +27,12 @@ list_read cells number items f (Ok n) now stack is h = λ fixed texts units prin
     ap (λ (o : Option Cell). runs units (bind (on_cell (on_list f) o) (rest (reverse stack))) (stated fixed cells texts) printed) is ∙ h (stated fixed cells texts) units printed
 list_read cells number items f (Err x) now stack is h = tt
 
+pub list_read_at : (cells : List Cell) (number : ℕ) (items : List Value) (f : List Value → RuleTree) (result : Result Next NoMemory) (now stack : List Frame) → cell_of cells number ≡ Some (cell.List items)
+    → IfOk result (λ n. (fixed : State) (texts : List Program) → MeansIn (stated fixed cells texts) now n (f items) stack) → IfOk result (λ n. (fixed : State) (texts : List Program) → MeansIn (stated fixed cells texts) now n (reads_list number f) stack)
+list_read_at cells number items f (Ok n) now stack is h = λ fixed texts units printed.
+    ap (λ (o : Option Cell). runs units (bind (on_cell (on_list f) o) (rest (reverse stack))) (stated fixed cells texts) printed) is ∙ h fixed texts units printed
+list_read_at cells number items f (Err x) now stack is h = tt
+
 pub list_found : (cells : List Cell) (number : ℕ) (items : List Value) (f : List Value → RuleTree) (result : Result Next NoMemory) (now stack : List Frame) → cell_of cells number ≡ Some (cell.List items)
     → IfOk result (λ n. (s : State) → MeansIn s now n (gives_found (f items)) stack) → IfOk result (λ n. (fixed : State) (texts : List Program) → MeansIn (stated fixed cells texts) now n (gives_found (reads_list number f)) stack)
 list_found cells number items f (Ok n) now stack is h = λ fixed texts units printed.
