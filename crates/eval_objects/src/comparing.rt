@@ -6,7 +6,7 @@ ghost use Rattle.py_store.specs.EntryLists.{EntryList};
 ghost use Rattle.py_store.specs.declared.cell.Cell.TheVariants as cell;
 ghost use Rattle.py_store.specs.declared.cell.Which.{Which};
 ghost use Rattle.eval_frames.specs.declared.frame.Frame.{Frame};
-ghost use Rattle.eval_frames.specs.Meaning.{IsLight, Means, MeansIn};
+ghost use Rattle.eval_frames.specs.Meaning.{IsLight, MeansIn};
 ghost use Rattle.language_rules.specs.AtOnce.{stated};
 ghost use Rattle.language_rules.specs.CellComparing.{cell_compare, cells_compared};
 ghost use Rattle.language_rules.specs.Perform.{compare_rule};
@@ -80,7 +80,7 @@ fn compare_so(
     other: &Value,
     way: Comparing,
 ) -> Result<Next, NoMemory>
-    ensures means { IfOk result (λ next. Means stack.new.items next (compared_as way number op other.now) stack.old.items) }
+    ensures means { IfOk result (λ next. (s : State) → MeansIn s stack.new.items next (compared_as way number op other.now) stack.old.items) }
     ensures light { IfOk result (λ next. IsLight stack.new.items next stack.old.items) }
 {
     match way {
