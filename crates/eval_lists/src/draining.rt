@@ -41,7 +41,13 @@ pub(crate) fn extend_by_asking(
     ensures means { IfOk result (λ next. (fixed : State) (texts : List Program) → MeansIn (stated fixed store.now.cells texts) stack.new.items next (on_kind more.now (drains_kind (goes_over AList more.now (extended list)))) stack.old.items) }
     ensures light { IfOk result (λ next. IsLight stack.new.items next stack.old.items) }
 {
-    take_way(alloc, stack, list, more, way_over(kind_of_value(store, more)))
+    take_way(
+        alloc,
+        stack,
+        list,
+        more,
+        way_over(kind_of_value(store, more)),
+    )
 }
 
 fn take_way(
@@ -61,12 +67,7 @@ fn take_way(
     }
 }
 
-fn go_over(
-    alloc: Global,
-    stack: &mut Vec<Frame>,
-    list: u32,
-    more: Value,
-) -> Result<Next, NoMemory>
+fn go_over(alloc: Global, stack: &mut Vec<Frame>, list: u32, more: Value) -> Result<Next, NoMemory>
     ensures means { IfOk result (λ next. Means stack.new.items next (goes_over AList more (extended list)) stack.old.items) }
     ensures light { IfOk result (λ next. IsLight stack.new.items next stack.old.items) }
 {

@@ -50,12 +50,7 @@ pub fn special_of_list(
 }
 
 /// A special operation on a list without arguments.
-fn list_alone(
-    alloc: Global,
-    store: &Store,
-    number: u32,
-    special: Special,
-) -> Result<Next, NoMemory>
+fn list_alone(alloc: Global, store: &Store, number: u32, special: Special) -> Result<Next, NoMemory>
     requires { IsList store.now.cells number }
     ensures means { IfOk result (λ next. (fixed : State) (texts : List Program) (stack : List Frame) → MeansIn (stated fixed store.now.cells texts) stack next (special_rule special (value.Own number) []) stack) }
     ensures light { IfOk result (λ next. (stack : List Frame) → IsLight stack next stack) }
@@ -134,7 +129,7 @@ fn add_kind(
     other: &Value,
     kind: Option<Kind>,
 ) -> Result<Next, NoMemory>
-    ensures means { IfOk result (λ next. Means stack.new.items next (adds_list number other.now kind) stack.old.items) }
+    ensures means { IfOk result (λ next. (s : State) → MeansIn s stack.new.items next (adds_list number other.now kind) stack.old.items) }
     ensures light { IfOk result (λ next. IsLight stack.new.items next stack.old.items) }
 {
     if is_list(kind) {

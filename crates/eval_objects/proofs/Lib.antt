@@ -1,3 +1,4 @@
+pub mod CompareLemmas
 pub mod FunctionLemmas
 pub mod IteratorLemmas
 pub mod PrivateNames

@@ -34,6 +34,17 @@ pub fn perform(
     ensures light { IfOk result (λ next. IsLight stack.new.items next stack.old.items) }
 {
     match &operation {
+        Operation::GetRoot => Ok(get_root(store)),
+        Operation::GetAttr { receiver, name } => {
+            get_attribute(alloc, store, receiver, name.as_str())
+        }
+        Operation::SetAttr { receiver, name, .. } => {
+            set_attribute(alloc, store, receiver, name.as_str())
+        }
+        Operation::DelAttr { receiver, name } => {
+            delete_attribute(alloc, store, receiver, name.as_str())
+        }
+        Operation::Call { .. } => Err(NoMemory),
         Operation::Special {
             receiver,
             special,
@@ -46,33 +57,11 @@ pub fn perform(
             *special,
             arguments.as_slice(),
         ),
-        _ => answer(alloc, store, &operation),
-    }
-}
-
-/// The answer of an operation that changes nothing.
-fn answer(alloc: Global, store: &Store, operation: &Operation) -> Result<Next, NoMemory>
-    ensures means { IfOk result (λ next. (fixed : State) (texts : List Program) (stack : List Frame) → MeansIn (stated fixed store.now.cells texts) stack next (perform operation.now) stack) }
-    ensures light { IfOk result (λ next. (stack : List Frame) → IsLight stack next stack) }
-{
-    match operation {
-        Operation::GetRoot => Ok(get_root(store)),
-        Operation::GetAttr { receiver, name } => {
-            get_attribute(alloc, store, receiver, name.as_str())
-        }
-        Operation::SetAttr { receiver, name, .. } => {
-            set_attribute(alloc, store, receiver, name.as_str())
-        }
-        Operation::DelAttr { receiver, name } => {
-            delete_attribute(alloc, store, receiver, name.as_str())
-        }
-        Operation::Call { .. } => Err(NoMemory),
-        Operation::Special { .. } => Err(NoMemory),
         Operation::Cmp {
             receiver,
             op,
             other,
-        } => compare(store, receiver, *op, other),
+        } => compare(alloc, stack, store, receiver, *op, other),
         Operation::Str(receiver) => str_of(store, receiver),
         Operation::Repr(receiver) => repr_of(store, receiver),
     }

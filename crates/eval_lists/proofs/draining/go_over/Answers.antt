@@ -10,4 +10,4 @@ use Rattle.eval_lists.proofs.draining.go_over.Goals as goal
 pub returns-clause-means : goal.returns-clause-means
 returns-clause-means c =
     subst (λ (o : Operation). IfOk c.operate_over.result (λ n. Means c.operate_over.new.stack.items n (operates_over o (frame.Drain (drain_frame.Iterator collection.List (draining.Extend c.args.list true)))) c.args.stack.now.items))
-        c.special.ensures c.operate_over.ensures.means
+    c.special.ensures c.operate_over.ensures.means

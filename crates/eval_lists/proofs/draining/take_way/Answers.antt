@@ -12,10 +12,10 @@ pub returns-in_ok-copy-in-Over-clause-means : goal.returns-in_ok-copy-in-Over-cl
 returns-in_ok-copy-in-Over-clause-means c =
     let over = goes_over AList c.args.more.now (extended c.args.list) in
     same_means over (way_taken c.args.way over) c.go_over.result c.go_over.new.stack.items c.args.stack.now.items (ap (λ (w : Way). way_taken w over) (sym c.in-Over.is))
-        (subst (λ (v : Value). IfOk c.go_over.result (λ n. Means c.go_over.new.stack.items n (goes_over AList v (extended c.args.list)) c.args.stack.now.items)) c.in_ok-copy-in-Over.ensures c.go_over.ensures.means)
+    (subst (λ (v : Value). IfOk c.go_over.result (λ n. Means c.go_over.new.stack.items n (goes_over AList v (extended c.args.list)) c.args.stack.now.items)) c.in_ok-copy-in-Over.ensures c.go_over.ensures.means)
 
 pub returns-in-Not-clause-means : goal.returns-in-Not-clause-means
 returns-in-Not-clause-means c =
     let over = goes_over AList c.args.more.now (extended c.args.list) in
     same_means not_iterable (way_taken c.args.way over) c.refuse.result c.args.stack.now.items c.args.stack.now.items (ap (λ (w : Way). way_taken w over) (sym c.in-Not.is))
-        (any_stack not_iterable c.refuse.result c.args.stack.now.items c.refuse.ensures.means)
+    (any_stack not_iterable c.refuse.result c.args.stack.now.items c.refuse.ensures.means)

@@ -9,5 +9,5 @@ use Rattle.eval_lists.proofs.extending.extend_at_once.Goals as goal
 pub returns-in_ok-put_behind-clause-means : goal.returns-in_ok-put_behind-clause-means
 returns-in_ok-put_behind-clause-means c =
     let room : (items : List Value) → cell_of c.args.store.now.cells c.args.list ≡ Some (cell.List items) → c.fits.result ≡ not (nat_lt most_items (length items + length c.args.more)) =
-        λ items is. c.fits.ensures items is ∙ ap (λ (n : ℕ). not (nat_lt most_items (length items + n))) c.len.ensures in
+    λ items is. c.fits.ensures items is ∙ ap (λ (n : ℕ). not (nat_lt most_items (length items + n))) c.len.ensures in
     grown c.args.store.now.cells c.put_behind.new.store.cells c.args.list c.args.more c.give.result c.fits.result c.requires room c.if-fits.true c.in_ok-put_behind.ensures c.give.ensures.means

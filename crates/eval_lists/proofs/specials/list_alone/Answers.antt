@@ -14,12 +14,12 @@ use Rattle.eval_lists.proofs.specials.list_alone.Goals as goal
 pub returns-in-Len-clause-means : goal.returns-in-Len-clause-means
 returns-in-Len-clause-means c =
     subst (λ (s : Special). IfOk c.answered.result (Within c.args.store.now.cells (special_rule s (value.Own c.args.number) []))) (sym c.in-Len.is)
-        (read_on c.args.store.now.cells (special_rule special.Len (value.Own c.args.number) []) c.read_list.result c.answered.result c.read_list.ensures c.answered.ensures.means)
+    (read_on c.args.store.now.cells (special_rule special.Len (value.Own c.args.number) []) c.read_list.result c.answered.result c.read_list.ensures c.answered.ensures.means)
 
 pub returns-in-Bool-clause-means : goal.returns-in-Bool-clause-means
 returns-in-Bool-clause-means c =
     subst (λ (s : Special). IfOk c.answered-in-Bool.result (Within c.args.store.now.cells (special_rule s (value.Own c.args.number) []))) (sym c.in-Bool.is)
-        (read_on c.args.store.now.cells (special_rule special.Bool (value.Own c.args.number) []) c.read_list-in-Bool.result c.answered-in-Bool.result c.read_list-in-Bool.ensures c.answered-in-Bool.ensures.means)
+    (read_on c.args.store.now.cells (special_rule special.Bool (value.Own c.args.number) []) c.read_list-in-Bool.result c.answered-in-Bool.result c.read_list-in-Bool.ensures c.answered-in-Bool.ensures.means)
 
 pub returns-in-Iter-clause-means : goal.returns-in-Iter-clause-means
 returns-in-Iter-clause-means c =

@@ -20,7 +20,7 @@ returns-in-GetItem-clause-means c =
 pub returns-in-DelItem-clause-means : goal.returns-in-DelItem-clause-means
 returns-in-DelItem-clause-means c =
     changed_one c.args.store.now c.change_list.new.store c.args.number c.args.special special.DelItem c.args.x.now c.from_ref-in-DelItem.result.now c.change_list.result c.answered-in-DelItem.result c.args.stack.now.items c.in-DelItem.is c.from_ref-in-DelItem.ensures.value
-        c.change_list.ensures.comes c.change_list.ensures.kept c.answered-in-DelItem.ensures.means
+    c.change_list.ensures.comes c.change_list.ensures.kept c.answered-in-DelItem.ensures.means
 
 pub returns-in_ok-copy-in-Contains-clause-means : goal.returns-in_ok-copy-in-Contains-clause-means
 returns-in_ok-copy-in-Contains-clause-means c =
