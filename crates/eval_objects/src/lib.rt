@@ -1,5 +1,5 @@
-//! Operations that are carried out where their receiver lives, behind their unit: those of functions, and of what is no
-//! object.
+//! Operations that are carried out where their receiver lives, behind their unit: those of functions, lists, ranges,
+//! dicts, views and iterators, and of what is no object.
 #![tactic(auto)]
 
 mod advancing;

@@ -21,8 +21,8 @@ use std::alloc::Global;
 /// The number of a side's root.
 const ROOT: u32 = 2;
 
-/// An operation on an own object, or on what is none, behind its unit. Calls belong elsewhere; of objects only functions
-/// are built yet, and the root as a whole.
+/// An operation on an own object, or on what is none, behind its unit. Calls and texts belong elsewhere; instances,
+/// classes, the namespace and what a connection has are not built yet, nor is any attribute.
 pub fn perform(
     alloc: Global,
     stack: &mut Vec<Frame>,

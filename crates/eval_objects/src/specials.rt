@@ -11,8 +11,8 @@ ghost use Rattle.language_rules.specs.States.{State};
 
 use crate::iterators::special_of_iterator;
 use crate::plain_receivers::special_of_plain;
-use eval_frames::{Frame, Next};
 use eval_dicts::{special_of_dict, special_of_view};
+use eval_frames::{Frame, Next};
 use eval_lists::special_of_list;
 use eval_ranges::{refuse, special_of_range};
 use object_operations::{Completion, Special};
@@ -65,7 +65,9 @@ fn special_of_object(
         Some(Cell::List(_)) => special_of_list(alloc, stack, store, number, special, arguments),
         Some(Cell::Dict { .. }) => special_of_dict(alloc, store, number, special, arguments),
         Some(Cell::View { dict, which }) => {
-            special_of_view(alloc, stack, store, number, *dict, *which, special, arguments)
+            special_of_view(
+                alloc, stack, store, number, *dict, *which, special, arguments,
+            )
         }
         Some(_) => Err(NoMemory),
         None => Ok(Next::Leave(Beyond::NotYet)),
