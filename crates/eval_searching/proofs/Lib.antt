@@ -2,3 +2,4 @@ pub mod AddLaws
 pub mod CompareLaws
 pub mod FoundLaws
 pub mod StateLaws
+pub mod ValueLaws

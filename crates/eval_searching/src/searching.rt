@@ -14,6 +14,7 @@ ghost use Rattle.language_rules.specs.States.{State};
 ghost use Rattle.eval_searching.specs.Searched.{item_asked};
 
 use crate::asking::{ask_found, one_refers};
+use crate::dicts::give_value;
 use crate::lists::{Searched, search_behind, search_from};
 use eval_exprs::told_truth;
 use eval_frames::{Frame, Next, SearchFrame};
@@ -73,7 +74,7 @@ fn ask_first(
     ask_item(alloc, stack, list, items, at, wanted)
 }
 
-fn give_bool(holds: bool) -> Next
+pub(crate) fn give_bool(holds: bool) -> Next
     ensures means { (stack : List Frame) → Means stack result (gives (boolean holds)) stack }
     ensures light { (stack : List Frame) → IsLight stack result stack }
 {
@@ -136,7 +137,7 @@ fn ask_referring(
     ask_found(alloc, stack, Frame::Search(frame), wanted, item)
 }
 
-/// Goes on with a search. The values of dicts are not built yet.
+/// Goes on with a search.
 pub fn give_search(
     alloc: Global,
     stack: &mut Vec<Frame>,
@@ -153,7 +154,14 @@ pub fn give_search(
             position,
             wanted,
         } => give_item(alloc, stack, store, list, position, wanted, completion),
-        SearchFrame::Values { .. } => Err(NoMemory),
+        SearchFrame::Values {
+            dict,
+            shape,
+            position,
+            wanted,
+        } => give_value(
+            alloc, stack, store, dict, shape, position, wanted, completion,
+        ),
         SearchFrame::Found => Ok(give_whether(completion)),
     }
 }
@@ -199,7 +207,7 @@ fn give_item(
     }
 }
 
-fn give_position(position: u64) -> Next
+pub(crate) fn give_position(position: u64) -> Next
     ensures means { (stack : List Frame) → Means stack result (gives_position position) stack }
     ensures light { (stack : List Frame) → IsLight stack result stack }
 {
