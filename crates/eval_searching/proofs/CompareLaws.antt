@@ -1,5 +1,5 @@
 -- Comparison of two lists.
-use Rattle.std.proofs.Common.{◌≡◌, ◌||◌, ℕ, [], ◌∷◌, pos, Bool, true, false, List, Option, Some, None, Result, Ok, Err, IfOk, reverse, refl, sym, ◌∙◌, ap, subst}
+use Rattle.std.proofs.Common.{◌≡◌, ℕ, [], ◌∷◌, pos, Bool, false, List, Option, Some, None, Result, Ok, Err, IfOk, reverse, refl, sym, ◌∙◌, ap, subst}
 use Rattle.rp_base.specs.declared.ends.NoMemory.{NoMemory}
 use Rattle.rp_base.specs.declared.exceptions.Beyond.{Beyond}
 use Rattle.rp_base.specs.declared.plain.Plain.TheVariants as plain

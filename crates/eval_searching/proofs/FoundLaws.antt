@@ -1,6 +1,6 @@
 -- Comparison of a value with an item, of which one may have to be asked.
-use Rattle.std.proofs.Common.{◌≡◌, ◌≤◌, ◌<◌, ◌||◌, ◌++◌, [], ◌∷◌, ℕ, suc, Bool, true, false, List, Option, Some, None, Result, Ok, Err, IfOk, drop, length, map, reverse, refl, sym, ◌∙◌, ap, subst, arith}
-use Rattle.std.proofs.lemmas.List.{drop_all, reverse-append}
+use Rattle.std.proofs.Common.{◌≡◌, ◌||◌, ◌++◌, [], ◌∷◌, ℕ, Bool, true, false, List, Result, Ok, Err, IfOk, map, reverse, refl, sym, ◌∙◌, ap, subst}
+use Rattle.std.proofs.lemmas.List.{reverse-append}
 use mathlib.Core.Path.{fun_ext}
 use Rattle.rp_base.specs.declared.ends.NoMemory.{NoMemory}
 use Rattle.rp_base.specs.declared.identity.IdPack.{IdPack}
@@ -35,7 +35,7 @@ use Rattle.eval_frames.specs.declared.frame.Frame.{Frame}
 use Rattle.eval_frames.specs.declared.frame.Frame.TheVariants as frame
 use Rattle.eval_frames.specs.declared.next.Next.{Next}
 use Rattle.eval_frames.specs.Meaning.{MeansIn, RunsAs, meant, rest, resume}
-use Rattle.eval_searching.specs.Searched.{GoesOnAs, IsFound, WaitsFor, by_step, equal_step}
+use Rattle.eval_searching.specs.Searched.{GoesOnAs, WaitsFor, by_step, equal_step}
 
 -- ---- at once
 

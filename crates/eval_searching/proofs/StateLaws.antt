@@ -1,5 +1,5 @@
 -- Steps over a list as it is now.
-use Rattle.std.proofs.Common.{◌≡◌, ℕ, ◌∷◌, List, Option, Some, Bool, true, false, Result, Ok, Err, IfOk, reverse, refl, sym, ◌∙◌, ap, suc, drop}
+use Rattle.std.proofs.Common.{◌≡◌, ℕ, ◌∷◌, List, Option, Some, Bool, true, false, Result, Ok, Err, IfOk, reverse, refl, ◌∙◌, ap, suc, drop}
 use Rattle.rp_base.specs.declared.ends.NoMemory.{NoMemory}
 use Rattle.rp_base.specs.declared.value.Value.{Value}
 use Rattle.py_ast.specs.declared.program.Program.{Program}

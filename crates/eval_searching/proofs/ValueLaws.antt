@@ -1,5 +1,5 @@
 -- Searching in the values of a dict.
-use Rattle.std.proofs.Common.{◌≡◌, ◌≤◌, ◌+◌, ◌∷◌, [], ℕ, zero, suc, Bool, true, false, List, Option, Some, None, Result, Ok, Err, IfOk, drop, length, map, option_map, slice_get, reverse, refl, sym, ◌∙◌, ap, subst}
+use Rattle.std.proofs.Common.{◌≡◌, ◌∷◌, [], ℕ, zero, suc, Bool, true, false, List, Option, Some, None, Result, Ok, Err, IfOk, drop, option_map, slice_get, reverse, refl, sym, ◌∙◌, ap, subst}
 use Rattle.rp_base.specs.declared.ends.NoMemory.{NoMemory}
 use Rattle.rp_base.specs.declared.value.Value.{Value}
 use Rattle.py_ast.specs.declared.program.Program.{Program}
@@ -7,11 +7,11 @@ use Rattle.py_store.specs.Cells.{cell_of}
 use Rattle.py_store.specs.EntryLists.{EntryList}
 use Rattle.py_store.specs.declared.cell.Cell.{Cell}
 use Rattle.py_store.specs.declared.cell.Cell.TheVariants as cell
-use Rattle.side_trees.specs.Trees.{Return, bind}
+use Rattle.side_trees.specs.Trees.{bind}
 use Rattle.language_rules.specs.AtOnce.{stated}
-use Rattle.language_rules.specs.Codes.{Code, Completion, Gives, Step, ValuesNext}
+use Rattle.language_rules.specs.Codes.{Code, Completion, Step, ValuesNext}
 use Rattle.language_rules.specs.Containing.{gives_found}
-use Rattle.language_rules.specs.Going.{RuleTree, none, on_cell}
+use Rattle.language_rules.specs.Going.{RuleTree, on_cell}
 use Rattle.language_rules.specs.Running.{runs}
 use Rattle.language_rules.specs.Searching.{gives_position, on_dict, reads_dict, values_behind, values_from, values_of, values_rule}
 use Rattle.language_rules.specs.States.{State}

@@ -1,5 +1,5 @@
 -- What a search in the values of a dict has come to.
-use Rattle.std.specs.Prelude.{◌==◌, ℕ, suc, List, [], ◌∷◌, drop, Bool, true, false, Option, Some, None}
+use Rattle.std.specs.Prelude.{ℕ, suc, List, [], ◌∷◌, drop, Bool, true, false, Option, Some, None}
 use Rattle.rp_base.specs.declared.value.Value.{Value}
 use Rattle.side_trees.specs.Trees.{Return}
 use Rattle.language_rules.specs.Codes.{Gives, ValuesNext}
