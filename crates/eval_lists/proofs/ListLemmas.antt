@@ -38,8 +38,7 @@ use Rattle.eval_frames.specs.Meaning.{Means, MeansIn, MeansOver, meant, rest}
 use Rattle.py_lists.specs.Lists.{IsList, IsListCell}
 use Rattle.eval_ranges.proofs.CellSteps.{Over, at_cell}
 use Rattle.eval_ranges.proofs.SpecialLemmas.{Plainly, Within, all_within, in_state, of_kind}
-use Rattle.eval_lists.specs.Extending.{extended, extended_list, way_taken}
-use Rattle.eval_lists.specs.declared.draining.Way.{Way}
+use Rattle.eval_lists.specs.Extending.{extended, extended_list}
 
 pub list_is_there : (cells : List Cell) (n : ℕ) → IsList cells n → (0 < n) × (n ≤ length cells)
 list_is_there cells n h = is_there IsListCell (λ none. none) cells n h
