@@ -18,7 +18,7 @@ use Rattle.language_rules.specs.Draining.{most_items}
 use Rattle.language_rules.specs.Entries.{within_items}
 use Rattle.language_rules.specs.Going.{done, sets_cell}
 use Rattle.language_rules.specs.Rules.{expand}
-use Rattle.language_rules.specs.Running.{prints_behind}
+use Rattle.language_rules.specs.Running.{prints_behind, runs}
 use Rattle.language_rules.specs.Searching.{on_list}
 use Rattle.language_rules.specs.States.{State, set_cell}
 use Rattle.eval_frames.specs.declared.frame.Frame.{Frame}
@@ -71,11 +71,12 @@ grown n items more after is_answer b s e f g =
     ended false = refl
 
 -- the list is taken out, grows, and is put back
-pub extended : (n : ℕ) (items more after : List Value) (is_answer : Bool) (old taken now : Cells) (fixed : State) (texts : List Program) (stack : List Frame)
-    → cell_of old.cells n ≡ Some (cell.List items) → room_of (length more) (cell_of old.cells n) ≡ Some true → taken ≡ record old { cells = with_cell old.cells n cell.Root } → now ≡ record taken { cells = with_cell taken.cells n (cell.List after) } → after ≡ items ++ more
-    → MeansOver (stated fixed old.cells texts) (stated fixed now.cells texts) stack (next.Give (Gives (answer_of n is_answer))) (drained (draining.Extend n is_answer) more) stack
-extended n items more after is_answer old taken now fixed texts stack h room p q g units printed =
+pub extended : (n : ℕ) (items more after : List Value) (is_answer : Bool) (v : Value) (old taken now : Cells) (fixed : State) (texts : List Program) (stack : List Frame)
+    → cell_of old.cells n ≡ Some (cell.List items) → room_of (length more) (cell_of old.cells n) ≡ Some true → taken ≡ record old { cells = with_cell old.cells n cell.Root } → now ≡ record taken { cells = with_cell taken.cells n (cell.List after) } → after ≡ items ++ more → v ≡ answer_of n is_answer
+    → MeansOver (stated fixed old.cells texts) (stated fixed now.cells texts) stack (next.Give (Gives v)) (drained (draining.Extend n is_answer) more) stack
+extended n items more after is_answer v old taken now fixed texts stack h room p q g e units printed =
     goes_on expand prints_behind units (drained (draining.Extend n is_answer) more) (rest (reverse stack)) (stated fixed old.cells texts) (stated fixed now.cells texts) printed (Gives (answer_of n is_answer))
     (carried (on_list (λ vs. within_items (length vs + length more) (sets_cell n (cell.List (vs ++ more)) (if is_answer then gives (value.Own n) else Return done)))) n old taken now (cell.List items) cell.Root (cell.List after) (Ok (answer_of n is_answer)) h p q
     (λ s e. grown n items more after is_answer (nat_lt most_items (length items + length more)) s refl (there_is_room old.cells n (length more) items h room) g)
     (stated fixed old.cells texts))
+    ∙ ap (λ (w : Value). runs units (rest (reverse stack) (Gives w)) (stated fixed now.cells texts) printed) (sym e)

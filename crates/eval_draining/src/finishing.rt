@@ -1,4 +1,4 @@
-ghost use Rattle.std.specs.Prelude.{IfOk, List, length};
+ghost use Rattle.std.specs.Prelude.{◌≡◌, ◌==◌, IfOk, List, length};
 ghost use Rattle.rp_base.specs.Values.{tuple_of};
 ghost use Rattle.eval_frames.specs.declared.frame.Frame.{Frame};
 ghost use Rattle.eval_frames.specs.declared.loop_frames.Draining.TheVariants as draining;
@@ -7,7 +7,6 @@ ghost use Rattle.eval_frames.specs.Meaning.{IsLight, Means, MeansOver};
 ghost use Rattle.language_rules.specs.Answers.{tuple_answers};
 ghost use Rattle.language_rules.specs.AtOnce.{stated};
 ghost use Rattle.language_rules.specs.Draining.{counted};
-
 ghost use Rattle.language_rules.specs.States.{State};
 ghost use Rattle.language_rules.specs.Targets.{assigns_each};
 
@@ -47,11 +46,7 @@ pub(crate) fn finish(
 }
 
 /// What a builtin function makes of all items.
-fn call_on_items(
-    alloc: Global,
-    function: Builtin,
-    items: Items<Value>,
-) -> Result<Next, NoMemory>
+fn call_on_items(alloc: Global, function: Builtin, items: Items<Value>) -> Result<Next, NoMemory>
     ensures means { IfOk result (λ next. (stack : List Frame) → Means stack next (drained (draining.Builtin function) items) stack) }
     ensures light { IfOk result (λ next. (stack : List Frame) → IsLight stack next stack) }
 {
@@ -100,9 +95,32 @@ fn unpack(
     ensures means { IfOk result (λ next. (fixed : State) → MeansOver (stated fixed store.old.cells texts.now) (stated fixed store.new.cells texts.now) stack.new.items next (counted (length targets) (assigns_each env targets) items) stack.old.items) }
     ensures light { IfOk result (λ next. IsLight stack.new.items next stack.old.items) }
 {
-    if items.len() != targets.len() {
-        return fail(alloc, ExcKind::ValueError, "wrong number of values");
+    if has_count(items.as_slice(), targets.len()) {
+        assign_all(alloc, stack, store, texts, env, targets, items)
+    } else {
+        fail(alloc, ExcKind::ValueError, "wrong number of values")
     }
+}
+
+/// Whether there are so many values.
+fn has_count(values: &[Value], count: usize) -> bool
+    ensures { result ≡ (length values.now == count) }
+{
+    values.len() == count
+}
+
+fn assign_all(
+    alloc: Global,
+    stack: &mut Vec<Frame>,
+    store: &mut Store,
+    texts: &[Program],
+    env: Env,
+    targets: Items<u32>,
+    items: Items<Value>,
+) -> Result<Next, NoMemory>
+    ensures means { IfOk result (λ next. (fixed : State) → MeansOver (stated fixed store.old.cells texts.now) (stated fixed store.new.cells texts.now) stack.new.items next (assigns_each env targets items) stack.old.items) }
+    ensures light { IfOk result (λ next. IsLight stack.new.items next stack.old.items) }
+{
     let targets = numbers_reversed(alloc, targets)?;
     let items = values_reversed(alloc, items)?;
     assign_each(alloc, stack, store, texts, env, targets, items)

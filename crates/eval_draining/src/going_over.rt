@@ -1,7 +1,8 @@
-ghost use Rattle.std.specs.Prelude.{◌≤◌, ◌+◌, ◌*◌, ◌++◌, ◌∷◌, [], IfOk, List, length};
+ghost use Rattle.std.specs.Prelude.{◌++◌, ◌∷◌, [], IfOk, List};
 ghost use Rattle.eval_frames.specs.declared.frame.Frame.{Frame};
 ghost use Rattle.eval_frames.specs.LoopFrames.{container, drained, through_drain};
-ghost use Rattle.eval_frames.specs.Meaning.{IsLight, Means, MeansIn, MeansOver, load};
+ghost use Rattle.eval_frames.specs.Meaning.{IsLight, Means, MeansOver};
+ghost use Rattle.eval_exprs.specs.Steps.{IsSlight, MeansAnywhere};
 ghost use Rattle.side_trees.specs.Trees.{bind};
 ghost use Rattle.language_rules.specs.AtOnce.{stated};
 ghost use Rattle.language_rules.specs.Draining.{asks_next, drain_rule, ends_drain, passes, within_limit};
@@ -54,13 +55,11 @@ fn give_iterator(
     draining: Draining,
     completion: Completion,
 ) -> Result<Next, NoMemory>
-    ensures means { IfOk result (λ next. (s : State) → MeansIn s stack.new.items next (on_value (λ iterator. bind (asks_next (container collection) iterator []) (on_items (drained draining))) completion) stack.old.items) }
+    ensures means { IfOk result (λ next. MeansAnywhere stack.new.items next (on_value (λ iterator. bind (asks_next (container collection) iterator []) (on_items (drained draining))) completion) stack.old.items) }
     ensures light { IfOk result (λ next. IsLight stack.new.items next stack.old.items) }
 {
     match completion {
-        Completion::Gives(iterator) => {
-            ask_first(alloc, stack, collection, draining, iterator)
-        }
+        Completion::Gives(iterator) => { ask_first(alloc, stack, collection, draining, iterator) }
         Completion::Raises(raised) => Ok(Next::Give(Completion::Raises(raised))),
         Completion::Returns(value) => Ok(Next::Give(Completion::Returns(value))),
         Completion::Breaks => Ok(Next::Give(Completion::Breaks)),
@@ -77,11 +76,12 @@ fn ask_first(
     draining: Draining,
     iterator: Value,
 ) -> Result<Next, NoMemory>
-    ensures means { IfOk result (λ next. (s : State) → MeansIn s stack.new.items next (bind (asks_next (container collection) iterator []) (on_items (drained draining))) stack.old.items) }
+    ensures means { IfOk result (λ next. MeansAnywhere stack.new.items next (bind (asks_next (container collection) iterator []) (on_items (drained draining))) stack.old.items) }
     ensures light { IfOk result (λ next. IsLight stack.new.items next stack.old.items) }
 {
     stack.push(Frame::Drain(DrainFrame::Drained(draining)))?;
-    ask_next(alloc, stack, collection, iterator, Items::new(alloc))
+    let items = Items::new(alloc);
+    ask_next(alloc, stack, collection, iterator, items)
 }
 
 /// The next item is asked for, behind these.
@@ -92,8 +92,8 @@ fn ask_next(
     iterator: Value,
     items: Items<Value>,
 ) -> Result<Next, NoMemory>
-    ensures means { IfOk result (λ next. (s : State) → MeansIn s stack.new.items next (asks_next (container collection) iterator items) stack.old.items) }
-    ensures slight { IfOk result (λ next. load stack.new.items next ≤ 3 * length stack.old.items + 9) }
+    ensures means { IfOk result (λ next. MeansAnywhere stack.new.items next (asks_next (container collection) iterator items) stack.old.items) }
+    ensures slight { IfOk result (λ next. IsSlight stack.new.items next stack.old.items) }
 {
     let operation = special(alloc, iterator.copy(alloc)?, Special::Next);
     stack.push(Frame::Drain(DrainFrame::Item {
@@ -113,7 +113,7 @@ fn give_item(
     items: Items<Value>,
     completion: Completion,
 ) -> Result<Next, NoMemory>
-    ensures means { IfOk result (λ next. (s : State) → MeansIn s stack.new.items next (drain_rule (container collection) iterator items completion) stack.old.items) }
+    ensures means { IfOk result (λ next. MeansAnywhere stack.new.items next (drain_rule (container collection) iterator items completion) stack.old.items) }
     ensures light { IfOk result (λ next. IsLight stack.new.items next stack.old.items) }
 {
     match completion {
@@ -135,7 +135,7 @@ fn take_item(
     mut items: Items<Value>,
     item: Value,
 ) -> Result<Next, NoMemory>
-    ensures means { IfOk result (λ next. (s : State) → MeansIn s stack.new.items next (within_limit (asks_next (container collection) iterator (items ++ item ∷ [])) (passes (container collection) (items ++ item ∷ []))) stack.old.items) }
+    ensures means { IfOk result (λ next. MeansAnywhere stack.new.items next (within_limit (asks_next (container collection) iterator (items ++ item ∷ [])) (passes (container collection) (items ++ item ∷ []))) stack.old.items) }
     ensures light { IfOk result (λ next. IsLight stack.new.items next stack.old.items) }
 {
     items.push(item)?;

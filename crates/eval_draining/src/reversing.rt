@@ -5,7 +5,10 @@ use sqlite_items::Items;
 use std::alloc::Global;
 
 /// The numbers, the last first.
-pub(crate) fn numbers_reversed(alloc: Global, mut numbers: Items<u32>) -> Result<Items<u32>, NoMemory>
+pub(crate) fn numbers_reversed(
+    alloc: Global,
+    mut numbers: Items<u32>,
+) -> Result<Items<u32>, NoMemory>
     ensures { IfOk result (λ reversed. reverse reversed ≡ numbers) }
 {
     let mut reversed = Items::new(alloc);
@@ -16,7 +19,10 @@ pub(crate) fn numbers_reversed(alloc: Global, mut numbers: Items<u32>) -> Result
 }
 
 /// The values, the last first.
-pub(crate) fn values_reversed(alloc: Global, mut values: Items<Value>) -> Result<Items<Value>, NoMemory>
+pub(crate) fn values_reversed(
+    alloc: Global,
+    mut values: Items<Value>,
+) -> Result<Items<Value>, NoMemory>
     ensures { IfOk result (λ reversed. reverse reversed ≡ values) }
 {
     let mut reversed = Items::new(alloc);

@@ -1,5 +1,5 @@
 use crate::{give_printing, print};
-use eval_frames::{Frame, Next, PrintingFrame};
+use eval_frames::{Next, PrintingFrame};
 use object_operations::{Completion, Operation};
 use rp_base::{NoMemory, Plain, Text, Value};
 use sqlite_items::Items;
@@ -31,9 +31,11 @@ fn asked_line(alloc: Global) -> Result<(String, bool, bool), NoMemory> {
     values.push(Value::Own(3))?;
     values.push(Value::Plain(Plain::Bool(true)))?;
     let next = print(alloc, &mut stack, &mut printed, values)?;
-    let asked = asks_third(&next);
+    let asked = asks_third(&next) && stack.len() == 1;
     let answer = Completion::Gives(text(alloc, "x")?);
-    let frame = printing_frame(stack.pop())?;
+    let mut waiting = Items::new(alloc);
+    waiting.push(Value::Plain(Plain::Bool(true)))?;
+    let frame = PrintingFrame::Print { waiting };
     let next = give_printing(alloc, &mut stack, &mut printed, frame, answer)?;
     Ok((printed, asked, is_none(&next)))
 }
@@ -75,14 +77,6 @@ fn is_str_of_third(operation: &Operation) -> bool {
     match operation {
         Operation::Str(value) => matches!(value, Value::Own(3)),
         _ => false,
-    }
-}
-
-/// What waits for a text.
-fn printing_frame(frame: Option<Frame>) -> Result<PrintingFrame, NoMemory> {
-    match frame {
-        Some(Frame::Printing(frame)) => Ok(frame),
-        _ => Err(NoMemory),
     }
 }
 
