@@ -38,8 +38,7 @@ use Rattle.eval_frames.specs.Meaning.{Means, MeansIn, MeansOver, meant, rest}
 use Rattle.py_lists.specs.Lists.{IsList, IsListCell}
 use Rattle.eval_ranges.proofs.CellSteps.{Over, at_cell}
 use Rattle.eval_ranges.proofs.SpecialLemmas.{Plainly, Within, all_within, in_state, of_kind}
-use Rattle.eval_lists.specs.Extending.{extended, extended_list, way_taken}
-use Rattle.eval_lists.specs.declared.draining.Way.{Way}
+use Rattle.eval_lists.specs.Extending.{extended, extended_list}
 
 pub list_is_there : (cells : List Cell) (n : ℕ) → IsList cells n → (0 < n) × (n ≤ length cells)
 list_is_there cells n h = is_there IsListCell (λ none. none) cells n h
@@ -103,23 +102,6 @@ same_means t u r now before is h = subst (λ (x : RuleTree). IfOk r (λ n. Means
 pub any_stack : (t : RuleTree) (r : Result Next NoMemory) (stack : List Frame) → IfOk r (Plainly t) → IfOk r (λ n. Means stack n t stack)
 any_stack t (Ok n) stack h = h stack
 any_stack t (Err e) stack h = h
-
--- the same in every state
-abbrev pub InAll : RuleTree → List Frame → List Frame → Next → Type 0
-InAll t now before n = (s : State) → MeansIn s now n t before
-
-pub in_kinds : (cells : List Cell) (v : Value) (f : Option Kind → RuleTree) (k : Option Kind) (r : Result Next NoMemory) (now before : List Frame)
-    → ((fixed : State) (texts : List Program) → k ≡ kind_of (stated fixed cells texts) v) → IfOk r (InAll (f k) now before)
-    → IfOk r (λ n. (fixed : State) (texts : List Program) → MeansIn (stated fixed cells texts) now n (on_kind v f) before)
-in_kinds cells v f k (Ok n) now before is h = λ fixed texts. of_kind v f k n (stated fixed cells texts) now before (is fixed texts) (h (stated fixed cells texts))
-in_kinds cells v f k (Err e) now before is h = h
-
-pub same_in : (t u : RuleTree) (r : Result Next NoMemory) (now before : List Frame) → t ≡ u → IfOk r (InAll t now before) → IfOk r (InAll u now before)
-same_in t u r now before is h = subst (λ (x : RuleTree). IfOk r (InAll x now before)) is h
-
-pub in_all : (t : RuleTree) (r : Result Next NoMemory) (stack : List Frame) → IfOk r (Plainly t) → IfOk r (InAll t stack stack)
-in_all t (Ok n) stack h = λ s. in_state s t n stack stack (h stack)
-in_all t (Err e) stack h = h
 
 -- ---- a list and another list
 

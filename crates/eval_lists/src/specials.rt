@@ -129,7 +129,7 @@ fn add_kind(
     other: &Value,
     kind: Option<Kind>,
 ) -> Result<Next, NoMemory>
-    ensures means { IfOk result (λ next. (s : State) → MeansIn s stack.new.items next (adds_list number other.now kind) stack.old.items) }
+    ensures means { IfOk result (λ next. Means stack.new.items next (adds_list number other.now kind) stack.old.items) }
     ensures light { IfOk result (λ next. IsLight stack.new.items next stack.old.items) }
 {
     if is_list(kind) {

@@ -1,4 +1,4 @@
-use Rattle.std.proofs.Common.{[], ◌∷◌, List, IfOk, refl, sym, subst}
+use Rattle.std.proofs.Common.{List, IfOk, refl, sym, subst}
 use Rattle.object_operations.specs.declared.special.Special.TheVariants as special
 use Rattle.rp_base.specs.declared.value.Value.{Value}
 use Rattle.rp_base.specs.declared.value.Value.TheVariants as value

@@ -1,4 +1,4 @@
-use Rattle.std.proofs.Common.{IfOk, ap, sym, subst, List}
+use Rattle.std.proofs.Common.{IfOk, ap, sym, subst}
 use Rattle.rp_base.specs.declared.value.Value.{Value}
 use Rattle.eval_frames.specs.Meaning.{Means}
 use Rattle.language_rules.specs.Codes.{AList}

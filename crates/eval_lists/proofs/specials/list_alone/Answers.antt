@@ -3,10 +3,9 @@ use Rattle.object_operations.specs.declared.special.Special.{Special}
 use Rattle.object_operations.specs.declared.special.Special.TheVariants as special
 use Rattle.rp_base.specs.declared.value.Value.TheVariants as value
 use Rattle.py_store.specs.declared.cell.Cell.TheVariants as cell
-use Rattle.language_rules.specs.Going.{reads_cell}
 use Rattle.language_rules.specs.Iterating.{iter_rule}
 use Rattle.language_rules.specs.Operators.{unsupported}
-use Rattle.language_rules.specs.Perform.{special_of_cell, special_rule}
+use Rattle.language_rules.specs.Perform.{special_rule}
 use Rattle.eval_ranges.proofs.SpecialLemmas.{Within, all_within, within}
 use Rattle.eval_lists.proofs.ListLemmas.{list_told, read_on}
 use Rattle.eval_lists.proofs.specials.list_alone.Goals as goal

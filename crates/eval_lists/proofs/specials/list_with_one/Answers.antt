@@ -1,16 +1,7 @@
-use Rattle.std.proofs.Common.{[], ◌∷◌, List, IfOk, refl, sym, subst}
-use Rattle.object_operations.specs.declared.special.Special.{Special}
+use Rattle.std.proofs.Common.{[], ◌∷◌, refl}
 use Rattle.object_operations.specs.declared.special.Special.TheVariants as special
-use Rattle.rp_base.specs.declared.value.Value.{Value}
-use Rattle.rp_base.specs.declared.value.Value.TheVariants as value
-use Rattle.py_ast.specs.declared.program.Program.{Program}
-use Rattle.eval_frames.specs.Meaning.{MeansOver}
-use Rattle.language_rules.specs.AtOnce.{stated}
 use Rattle.language_rules.specs.Operators.{unsupported}
-use Rattle.language_rules.specs.Perform.{special_rule}
-use Rattle.language_rules.specs.States.{State}
-use Rattle.eval_ranges.proofs.SpecialLemmas.{all_within}
-use Rattle.eval_lists.proofs.ListLemmas.{any_over, changed_one, found_in, list_told, read_one}
+use Rattle.eval_lists.proofs.ListLemmas.{any_over, changed_one, found_in, read_one}
 use Rattle.eval_lists.proofs.specials.list_with_one.Goals as goal
 
 pub returns-in-GetItem-clause-means : goal.returns-in-GetItem-clause-means

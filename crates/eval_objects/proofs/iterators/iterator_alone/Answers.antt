@@ -1,4 +1,4 @@
-use Rattle.std.proofs.Common.{[], ◌∷◌, refl}
+use Rattle.std.proofs.Common.{[], refl}
 use Rattle.object_operations.specs.declared.special.Special.TheVariants as special
 use Rattle.language_rules.specs.Operators.{unsupported}
 use Rattle.eval_objects.proofs.IteratorLemmas.{still_plain}
