@@ -292,7 +292,7 @@ const GROWING: &[u8] =
 #[test]
 fn scripts_alone(rt: HostRuntime) -> Result<(), Fail> {
     let alloc = rt.alloc();
-    let runs: [Alone; 19] = [
+    let runs: [Alone; 20] = [
         (
             b"print(1)\n",
             &["--fuel", "2"],
@@ -379,7 +379,7 @@ fn scripts_alone(rt: HostRuntime) -> Result<(), Fail> {
             "A 0\nend raised A ValueError('a', 1)\nunits 4\n",
         ),
         (
-            b"print(1)\n\nx = {1: 2}\n",
+            b"print(1)\n\nx = sorted(())\n",
             &[],
             Status::Script,
             "rpyc: a.py line 3 rule NotYet\n",
@@ -400,7 +400,13 @@ fn scripts_alone(rt: HostRuntime) -> Result<(), Fail> {
             GROWING,
             &[],
             Status::Done,
-            "A 23\n[1, 2, 3] [0, 2, 4] 6\nend done\nunits 999\n",
+            "A 22\n[1, 2, 3] [0, 2, 4] 6\nend done\nunits 58\n",
+        ),
+        (
+            b"d = {1: \"one\"}\nd[True] = \"yes\"\nprint(d, 1 in d)\n",
+            &[],
+            Status::Done,
+            "A 16\n{1: 'yes'} True\nend done\nunits 17\n",
         ),
     ];
     for (script, options, status, text) in runs {
