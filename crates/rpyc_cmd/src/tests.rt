@@ -400,7 +400,7 @@ fn scripts_alone(rt: HostRuntime) -> Result<(), Fail> {
             GROWING,
             &[],
             Status::Done,
-            "A 22\n[1, 2, 3] [0, 2, 4] 6\nend done\nunits 58\n",
+            "A 22\n[1, 2, 3] [0, 2, 4] 6\nend done\nunits 64\n",
         ),
         (
             b"d = {1: \"one\"}\nd[True] = \"yes\"\nprint(d, 1 in d)\n",
