@@ -62,6 +62,8 @@ fn is_built_expression(program: &Program, expression: &Expression) -> bool
         | Expression::Builtin(_)
         | Expression::Constant(_)
         | Expression::Tuple(_)
+        | Expression::List(_)
+        | Expression::Dict(_)
         | Expression::Conditional { .. }
         | Expression::Or(_)
         | Expression::And(_)
@@ -73,7 +75,6 @@ fn is_built_expression(program: &Program, expression: &Expression) -> bool
         | Expression::Lambda(_) => true,
         Expression::Call { callee, .. } => is_built_callee(program, *callee),
         Expression::Attribute { receiver, .. } => names_handler(program, *receiver),
-        Expression::List(_) | Expression::Dict(_) => false,
     }
 }
 
@@ -125,8 +126,11 @@ fn is_built_function(function: Builtin) -> bool
         | Builtin::Tuple
         | Builtin::Min
         | Builtin::Max
-        | Builtin::Sum => true,
-        Builtin::Range | Builtin::List | Builtin::Dict | Builtin::Sorted => false,
+        | Builtin::Sum
+        | Builtin::Range
+        | Builtin::List
+        | Builtin::Dict => true,
+        Builtin::Sorted => false,
     }
 }
 
@@ -134,8 +138,8 @@ fn is_built_target(target: &Target) -> bool
     ensures { result ≡ is_built_target target.now }
 {
     match target {
-        Target::Name(_) | Target::Tuple(_) => true,
-        Target::Attribute { .. } | Target::Item { .. } => false,
+        Target::Name(_) | Target::Tuple(_) | Target::Item { .. } => true,
+        Target::Attribute { .. } => false,
     }
 }
 
@@ -157,10 +161,12 @@ fn is_built_statement(statement: &Statement) -> bool
         | Statement::Nonlocal(_)
         | Statement::If { .. }
         | Statement::While { .. }
+        | Statement::For { .. }
+        | Statement::Delete(_)
         | Statement::Try { .. }
         | Statement::Except { .. }
         | Statement::Def(_)
         | Statement::Suite(_) => true,
-        Statement::Delete(_) | Statement::For { .. } | Statement::Class { .. } => false,
+        Statement::Class { .. } => false,
     }
 }

@@ -27,11 +27,7 @@ pub(crate) fn best_of(alloc: Global, op: CmpOp, value: &Value) -> Result<Option<
 }
 
 /// The best of these items, where all are plain, which is judged before they are compared.
-pub(crate) fn best_of_items(
-    alloc: Global,
-    op: CmpOp,
-    items: &[Value],
-) -> Result<Option<Value>, OpEnd>
+pub fn best_of_items(alloc: Global, op: CmpOp, items: &[Value]) -> Result<Option<Value>, OpEnd>
     ensures computes { ComputesUnlessAsked (gives_best op items.now) result }
     ensures asked { NoneOnlyWhere false result }
 {

@@ -12,6 +12,8 @@ mod tests;
 mod texts;
 mod truth;
 
+pub use best::best_of_items;
 pub use functions::builtin;
 pub use items::items_at_hand;
+pub use sums::sum_of_items;
 pub use texts::text_of;

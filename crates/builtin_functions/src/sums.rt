@@ -24,7 +24,7 @@ pub(crate) fn sum_of(alloc: Global, value: &Value) -> Result<Option<Value>, OpEn
 }
 
 /// The sum of these items, where all are ints or bools, which is judged before they are added.
-fn sum_of_items(alloc: Global, items: &[Value]) -> Result<Option<Value>, OpEnd>
+pub fn sum_of_items(alloc: Global, items: &[Value]) -> Result<Option<Value>, OpEnd>
     ensures computes { ComputesUnlessAsked (gives_sum items.now) result }
     ensures asked { NoneOnlyWhere false result }
 {

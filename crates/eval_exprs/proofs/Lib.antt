@@ -1,4 +1,5 @@
 pub mod Cases
+pub mod DictEntries
 pub mod Moving
 pub mod Objects
 pub mod Operands

@@ -1,34 +1,31 @@
 -- What the rules ask of an object.
-use Rattle.std.proofs.Common.{◌≡◌, ℕ, zero, suc, Bool, true, false, List, [], ◌∷◌, ◌++◌, reverse, Option, Result, Ok, Err, IfOk, refl, sym, ◌∙◌, ap, if◌then◌else◌}
+use Rattle.std.proofs.Common.{◌≡◌, ℕ, zero, suc, Bool, true, false, List, [], ◌∷◌, ◌++◌, reverse, Option, Some, None, Result, Ok, Err, IfOk, refl, sym, ◌∙◌, ap, subst, if◌then◌else◌}
 use Rattle.rp_base.specs.declared.ends.NoMemory.{NoMemory}
 use Rattle.rp_base.specs.declared.exceptions.Beyond.TheVariants as beyond
 use Rattle.rp_base.specs.declared.identity.Kind.{Kind}
+use Rattle.rp_base.specs.declared.identity.Kind.TheVariants as kind
 use Rattle.rp_base.specs.declared.operators.BinaryOp.{BinaryOp}
-use Rattle.rp_base.specs.declared.operators.CmpOp.TheVariants as cmp
 use Rattle.rp_base.specs.declared.operators.UnaryOp.TheVariants as unary_op
 use Rattle.rp_base.specs.declared.value.Value.{Value}
 use Rattle.rp_base.specs.declared.value.Value.TheVariants as value
-use Rattle.rp_base.specs.Values.{tuple_of}
 use Rattle.py_ast.specs.declared.builtin.Builtin.{Builtin}
 use Rattle.py_ast.specs.declared.builtin.Builtin.TheVariants as builtin
 use Rattle.py_ast.specs.declared.program.Program.{Program}
 use Rattle.py_store.specs.declared.cell.Cell.{Cell}
-use Rattle.py_store.specs.declared.cell.Cell.TheVariants as cell
 use Rattle.object_operations.specs.declared.operation.Operation.{Operation}
 use Rattle.object_operations.specs.declared.operation.Operation.TheVariants as operation
 use Rattle.object_operations.specs.declared.special.Special.{Special}
 use Rattle.object_operations.specs.declared.special.Special.TheVariants as special
 use Rattle.side_trees.specs.Trees.{Return, Stop, bind}
-use Rattle.language_rules.specs.Answers.{asked, tuple_answers}
+use Rattle.language_rules.specs.Answers.{asked}
 use Rattle.language_rules.specs.AtOnce.{stated}
 use Rattle.language_rules.specs.Builtins.{builtin_rule}
 use Rattle.language_rules.specs.Chains.{opposite}
-use Rattle.language_rules.specs.Codes.{AList, ATuple, Completion, Give}
+use Rattle.language_rules.specs.Codes.{Completion, Give}
 use Rattle.language_rules.specs.Draining.{drains_kind, goes_over}
-use Rattle.language_rules.specs.Going.{RuleTree, gives_new, on_value, operates}
+use Rattle.language_rules.specs.Going.{RuleTree, on_value, operates}
 use Rattle.language_rules.specs.Kinds.{is_reference, on_kind}
 use Rattle.language_rules.specs.Operators.{binary_rule, is_defined, left_out, object_rule, special_for, unary_rule, unasked_rule, value_rule}
-use Rattle.language_rules.specs.Ordering.{gives_best, gives_sorted, gives_sum}
 use Rattle.language_rules.specs.PlainItems.{contains_in, contains_within, item_of, item_within, sequence_name}
 use Rattle.language_rules.specs.Draining.{items_at_hand}
 use Rattle.language_rules.specs.Printing.{gives_text, on_text, repr_step}
@@ -42,10 +39,14 @@ use Rattle.eval_frames.specs.declared.frame.Frame.{Frame}
 use Rattle.eval_frames.specs.declared.frame.Frame.TheVariants as frame
 use Rattle.eval_frames.specs.declared.next.Next.{Next}
 use Rattle.eval_frames.specs.declared.object_frames.OperationFrame.TheVariants as operation_frame
+use Rattle.eval_frames.specs.declared.loop_frames.Collection.{Collection}
+use Rattle.eval_frames.specs.declared.loop_frames.DrainFrame.TheVariants as drain_frame
+use Rattle.eval_frames.specs.declared.loop_frames.Draining.TheVariants as draining
+use Rattle.eval_frames.specs.LoopFrames.{container, drained}
 use Rattle.eval_frames.specs.Meaning.{Means, RunsAs, decides, operates_over, rest, resume}
 use Rattle.eval_exprs.proofs.Moving.{popped}
 use Rattle.eval_exprs.proofs.Shapes.{each_reference, each_value}
-use Rattle.eval_exprs.specs.Steps.{MeansAt, drains_object, takes_no_object, value_kind}
+use Rattle.eval_exprs.specs.Steps.{MeansAt, collection_for, drains_object, is_gone_over, takes_no_object, value_kind}
 
 -- ---- an operation, and then what goes on
 
@@ -113,30 +114,57 @@ object_refused builtin.Max v g h = cc
 object_refused builtin.Sum v g h = cc
 object_refused builtin.Sorted v g h = cc
 
-abbrev Drained : Builtin → Value → Type 0
-Drained f v = (over : RuleTree) × (builtin_rule f (v ∷ []) ≡ on_kind v (drains_kind over))
+-- what such a function does with an object that is gone over
+abbrev over_items : Builtin → Value → RuleTree
+over_items f v = goes_over (container (collection_for f)) v (drained (draining.Builtin f))
 
-pub object_drained : (f : Builtin) (v : Value) → drains_object f ≡ true → is_reference v ≡ true → Drained f v
+abbrev GoneOver : Builtin → Value → Type 0
+GoneOver f v = builtin_rule f (v ∷ []) ≡ on_kind v (drains_kind (over_items f v))
+
+pub object_gone_over : (f : Builtin) (v : Value) → drains_object f ≡ true → is_reference v ≡ true → GoneOver f v
 unfolding builtin_rule
-object_drained builtin.Tuple v g h =
-    each_reference (Drained builtin.Tuple) (λ n. (goes_over ATuple (value.Own n) (λ items. tuple_answers (tuple_of items)), refl)) (λ id. (goes_over ATuple (value.Proxy id) (λ items. tuple_answers (tuple_of items)), refl)) v h
-object_drained builtin.Min v g h = each_reference (Drained builtin.Min) (λ n. (goes_over AList (value.Own n) (gives_best cmp.Lt), refl)) (λ id. (goes_over AList (value.Proxy id) (gives_best cmp.Lt), refl)) v h
-object_drained builtin.Max v g h = each_reference (Drained builtin.Max) (λ n. (goes_over AList (value.Own n) (gives_best cmp.Gt), refl)) (λ id. (goes_over AList (value.Proxy id) (gives_best cmp.Gt), refl)) v h
-object_drained builtin.Sum v g h = each_reference (Drained builtin.Sum) (λ n. (goes_over AList (value.Own n) gives_sum, refl)) (λ id. (goes_over AList (value.Proxy id) gives_sum, refl)) v h
-object_drained builtin.List v g h =
-    each_reference (Drained builtin.List) (λ n. (goes_over AList (value.Own n) (λ items. gives_new (cell.List items)), refl)) (λ id. (goes_over AList (value.Proxy id) (λ items. gives_new (cell.List items)), refl)) v h
-object_drained builtin.Sorted v g h = each_reference (Drained builtin.Sorted) (λ n. (goes_over AList (value.Own n) gives_sorted, refl)) (λ id. (goes_over AList (value.Proxy id) gives_sorted, refl)) v h
-object_drained builtin.Print v g h = cc
-object_drained builtin.Len v g h = cc
-object_drained builtin.Str v g h = cc
-object_drained builtin.Repr v g h = cc
-object_drained builtin.Bool v g h = cc
-object_drained builtin.Int v g h = cc
-object_drained builtin.Abs v g h = cc
-object_drained builtin.Ord v g h = cc
-object_drained builtin.Chr v g h = cc
-object_drained builtin.Dict v g h = cc
-object_drained builtin.Range v g h = cc
+object_gone_over builtin.Tuple v g h = each_reference (GoneOver builtin.Tuple) (λ n. refl) (λ id. refl) v h
+object_gone_over builtin.Min v g h = each_reference (GoneOver builtin.Min) (λ n. refl) (λ id. refl) v h
+object_gone_over builtin.Max v g h = each_reference (GoneOver builtin.Max) (λ n. refl) (λ id. refl) v h
+object_gone_over builtin.Sum v g h = each_reference (GoneOver builtin.Sum) (λ n. refl) (λ id. refl) v h
+object_gone_over builtin.List v g h = each_reference (GoneOver builtin.List) (λ n. refl) (λ id. refl) v h
+object_gone_over builtin.Sorted v g h = each_reference (GoneOver builtin.Sorted) (λ n. refl) (λ id. refl) v h
+object_gone_over builtin.Print v g h = cc
+object_gone_over builtin.Len v g h = cc
+object_gone_over builtin.Str v g h = cc
+object_gone_over builtin.Repr v g h = cc
+object_gone_over builtin.Bool v g h = cc
+object_gone_over builtin.Int v g h = cc
+object_gone_over builtin.Abs v g h = cc
+object_gone_over builtin.Ord v g h = cc
+object_gone_over builtin.Chr v g h = cc
+object_gone_over builtin.Dict v g h = cc
+object_gone_over builtin.Range v g h = cc
+
+pub gone_over_asked : (r : Result Next NoMemory) (now before : List Frame) (f : Builtin) (v : Value) (collection : Collection) (o : Operation) → collection ≡ collection_for f → o ≡ operation.Special v special.Iter []
+    → IfOk r (λ n. Means now n (operates_over o (frame.Drain (drain_frame.Iterator collection (draining.Builtin f)))) before) → IfOk r (λ n. Means now n (over_items f v) before)
+gone_over_asked r now before f v collection o e h =
+    subst (λ (t : RuleTree). IfOk r (λ n. Means now n t before))
+    (ap (λ (c : Collection). operates_over o (frame.Drain (drain_frame.Iterator c (draining.Builtin f)))) e
+    ∙ ap (λ (x : Operation). operates_over x (frame.Drain (drain_frame.Iterator (collection_for f) (draining.Builtin f)))) h)
+
+drains_over : (over : RuleTree) (k : Option Kind) → is_gone_over k ≡ true → drains_kind over k ≡ over
+drains_over over (Some kind.List) h = refl
+drains_over over (Some kind.Dict) h = refl
+drains_over over (Some kind.Range) h = refl
+drains_over over (Some kind.View) h = refl
+drains_over over (Some kind.Function) h = cc
+drains_over over (Some kind.Class) h = cc
+drains_over over (Some kind.Instance) h = cc
+drains_over over (Some kind.Bound) h = cc
+drains_over over (Some kind.Iter) h = cc
+drains_over over (Some kind.Namespace) h = cc
+drains_over over (Some kind.Root) h = cc
+drains_over over (Some kind.Host) h = cc
+drains_over over (Some kind.HostFunc) h = cc
+drains_over over (Some kind.Conn) h = cc
+drains_over over (Some kind.Modules) h = cc
+drains_over over None h = cc
 
 -- ---- kinds
 
@@ -150,16 +178,26 @@ KindLooked v = (f : Option Kind → RuleTree) (k : Completion → RuleTree) (fix
 pub kind_looked : (v : Value) → KindLooked v
 kind_looked = each_value KindLooked (λ p f k fixed cells texts units printed. refl) (λ vs f k fixed cells texts units printed. refl) own_looked (λ id f k fixed cells texts units printed. refl)
 
-pub drained : (r : Result Next NoMemory) (f : Builtin) (v : Value) (kind : Option Kind) (cells : List Cell) → drains_object f ≡ true → is_reference v ≡ true → kind ≡ value_kind cells v
+-- a function that goes over an object, by the kind that the object has
+at_kind : (n : Next) (now before : List Frame) (f : Builtin) (v : Value) (kind : Option Kind) (cells : List Cell) → drains_object f ≡ true → is_reference v ≡ true → kind ≡ value_kind cells v
+    → Means now n (drains_kind (over_items f v) kind) before → MeansAt cells now n (builtin_rule f (v ∷ [])) before
+at_kind n now before f v kind cells g h e m = λ fixed texts units printed.
+    ap (λ (t : RuleTree). runs units (bind t (rest (reverse before))) (stated fixed cells texts) printed) (object_gone_over f v g h)
+    ∙ kind_looked v (drains_kind (over_items f v)) (rest (reverse before)) fixed cells texts units printed
+    ∙ ap (λ (o : Option Kind). runs units (bind (drains_kind (over_items f v) o) (rest (reverse before))) (stated fixed cells texts) printed) (sym e)
+    ∙ ap (λ (t : RuleTree). runs units t (stated fixed cells texts) printed) (sym m)
+
+pub kind_refused : (r : Result Next NoMemory) (stack : List Frame) (f : Builtin) (v : Value) (kind : Option Kind) (cells : List Cell) → drains_object f ≡ true → is_reference v ≡ true → kind ≡ value_kind cells v
     → IfOk r (λ n. (over : RuleTree) (stack : List Frame) → Means stack n (drains_kind over kind) stack)
-    → IfOk r (λ n. (stack : List Frame) → MeansAt cells stack n (builtin_rule f (v ∷ [])) stack)
-drained (Ok n) f v kind cells g h e m = λ stack fixed texts units printed.
-    let d : Drained f v = object_drained f v g h in
-    ap (λ (t : RuleTree). runs units (bind t (rest (reverse stack))) (stated fixed cells texts) printed) d.1
-    ∙ kind_looked v (drains_kind d.0) (rest (reverse stack)) fixed cells texts units printed
-    ∙ ap (λ (o : Option Kind). runs units (bind (drains_kind d.0 o) (rest (reverse stack))) (stated fixed cells texts) printed) (sym e)
-    ∙ ap (λ (t : RuleTree). runs units t (stated fixed cells texts) printed) (sym (m d.0 stack))
-drained (Err x) f v kind cells g h e m = tt
+    → IfOk r (λ n. MeansAt cells stack n (builtin_rule f (v ∷ [])) stack)
+kind_refused (Ok n) stack f v kind cells g h e m = at_kind n stack stack f v kind cells g h e (m (over_items f v) stack)
+kind_refused (Err x) stack f v kind cells g h e m = tt
+
+pub kind_gone_over : (r : Result Next NoMemory) (now before : List Frame) (f : Builtin) (v : Value) (kind : Option Kind) (cells : List Cell) → drains_object f ≡ true → is_reference v ≡ true → kind ≡ value_kind cells v → is_gone_over kind ≡ true
+    → IfOk r (λ n. Means now n (over_items f v) before)
+    → IfOk r (λ n. MeansAt cells now n (builtin_rule f (v ∷ [])) before)
+kind_gone_over (Ok n) now before f v kind cells g h e over m = at_kind n now before f v kind cells g h e (m ∙ ap (λ (t : RuleTree). bind t (rest (reverse before))) (sym (drains_over (over_items f v) kind over)))
+kind_gone_over (Err x) now before f v kind cells g h e over m = tt
 
 -- ---- operators
 

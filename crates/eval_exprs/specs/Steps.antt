@@ -3,6 +3,7 @@ use Rattle.std.specs.Prelude.{◌≡◌, ◌+◌, ◌*◌, ◌≤◌, ◌||◌, 
 use Rattle.std.specs.Bool.{⊤}
 use Rattle.rp_base.specs.Identity.{kind_named}
 use Rattle.rp_base.specs.declared.identity.Kind.{Kind}
+use Rattle.rp_base.specs.declared.identity.Kind.TheVariants as kind
 use Rattle.rp_base.specs.declared.plain.Plain.TheVariants as plain
 use Rattle.rp_base.specs.declared.value.Value.{Value}
 use Rattle.rp_base.specs.declared.value.Value.TheVariants as value
@@ -20,6 +21,8 @@ use Rattle.language_rules.specs.Kinds.{is_reference, kind_there}
 use Rattle.language_rules.specs.States.{State}
 use Rattle.language_rules.specs.Truth.{on_bool}
 use Rattle.eval_frames.specs.declared.frame.Frame.{Frame}
+use Rattle.eval_frames.specs.declared.loop_frames.Collection.{Collection}
+use Rattle.eval_frames.specs.declared.loop_frames.Collection.TheVariants as collection
 use Rattle.eval_frames.specs.declared.next.Next.{Next}
 use Rattle.eval_frames.specs.Meaning.{IsLight, Means, MeansIn, load}
 
@@ -76,6 +79,19 @@ drains_object builtin.Sum = true
 drains_object builtin.List = true
 drains_object builtin.Sorted = true
 drains_object _ = false
+
+-- the kinds of objects that such a function goes over
+abbrev pub is_gone_over : Option Kind → Bool
+is_gone_over (Some kind.List) = true
+is_gone_over (Some kind.Dict) = true
+is_gone_over (Some kind.Range) = true
+is_gone_over (Some kind.View) = true
+is_gone_over _ = false
+
+-- what the items go into
+abbrev pub collection_for : Builtin → Collection
+collection_for builtin.Tuple = collection.Tuple
+collection_for _ = collection.List
 
 -- the builtin functions that take no object
 abbrev pub takes_no_object : Builtin → Bool

@@ -24,7 +24,7 @@ use py_store::{Cell, Store};
 use rp_base::{Beyond, BinaryOp, NoMemory, Plain, Text, UnaryOp, Value};
 use std::alloc::Global;
 
-/// An expression begins, behind its unit. Displays of lists and dicts are not built yet.
+/// An expression begins, behind its unit.
 pub fn begin_expression(
     alloc: Global,
     stack: &mut Vec<Frame>,
@@ -68,7 +68,8 @@ pub fn begin_expression(
         Expression::Attribute { receiver, name } => {
             begin_attribute(alloc, stack, texts, env, *receiver, name)
         }
-        Expression::List(_) | Expression::Dict(_) => Err(NoMemory),
+        Expression::List(items) => begin_list(alloc, stack, store, env, items.as_slice()),
+        Expression::Dict(items) => begin_dict(alloc, stack, store, env, items.as_slice()),
     }
 }
 
@@ -90,6 +91,32 @@ fn begin_tuple(
     ensures light { IfOk result (λ next. IsLight stack.new.items next stack.old.items) }
 {
     gather(alloc, stack, store, env, Gathering::Tuple, items)
+}
+
+fn begin_list(
+    alloc: Global,
+    stack: &mut Vec<Frame>,
+    store: &Store,
+    env: Env,
+    items: &[u32],
+) -> Result<Next, NoMemory>
+    ensures means { IfOk result (λ next. MeansAt store.now.cells stack.new.items next (expression_rule env (expression.List items.now)) stack.old.items) }
+    ensures light { IfOk result (λ next. IsLight stack.new.items next stack.old.items) }
+{
+    gather(alloc, stack, store, env, Gathering::List, items)
+}
+
+fn begin_dict(
+    alloc: Global,
+    stack: &mut Vec<Frame>,
+    store: &Store,
+    env: Env,
+    items: &[u32],
+) -> Result<Next, NoMemory>
+    ensures means { IfOk result (λ next. MeansAt store.now.cells stack.new.items next (expression_rule env (expression.Dict items.now)) stack.old.items) }
+    ensures light { IfOk result (λ next. IsLight stack.new.items next stack.old.items) }
+{
+    gather(alloc, stack, store, env, Gathering::Dict, items)
 }
 
 /// A function without a name.

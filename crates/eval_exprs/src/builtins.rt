@@ -1,18 +1,23 @@
-ghost use Rattle.std.specs.Prelude.{◌≡◌, ◌∷◌, [], IfOk, List, true};
+ghost use Rattle.std.specs.Prelude.{◌≡◌, ◌∷◌, [], IfOk, List, false, true};
 ghost use Rattle.py_ast.specs.declared.builtin.Builtin.{Builtin};
 ghost use Rattle.eval_frames.specs.declared.frame.Frame.{Frame};
 ghost use Rattle.eval_frames.specs.Meaning.{IsLight, Means};
 ghost use Rattle.language_rules.specs.Builtins.{builtin_rule};
-ghost use Rattle.language_rules.specs.Draining.{drains_kind, not_iterable};
+ghost use Rattle.eval_frames.specs.LoopFrames.{container, drained};
+ghost use Rattle.eval_frames.specs.declared.loop_frames.Draining.TheVariants as draining;
+ghost use Rattle.language_rules.specs.Draining.{drains_kind, goes_over, not_iterable};
 ghost use Rattle.language_rules.specs.Going.{RuleTree};
 ghost use Rattle.language_rules.specs.Kinds.{is_reference};
-ghost use Rattle.eval_exprs.specs.Steps.{IsOnlyReference, MeansAt, drains_object, takes_no_object};
+ghost use Rattle.eval_exprs.specs.Steps.{IsOnlyReference, MeansAt, collection_for, drains_object, is_gone_over, takes_no_object};
 
-use crate::asking::{fail, is_reference, special};
 use crate::kinds::kind_of;
+use crate::making::{dict, list, range};
 use crate::testing::ask_truth;
 use builtin_functions::builtin;
-use eval_frames::{Decision, Frame, Next, OperationFrame, computed, operate, operate_over};
+use eval_frames::{
+    Collection, Decision, DrainFrame, Draining, Frame, Next, OperationFrame, computed, fail,
+    is_reference, operate, operate_over, special,
+};
 use object_operations::{Operation, Special};
 use py_ast::Builtin;
 use py_store::Store;
@@ -20,8 +25,8 @@ use rp_base::{Beyond, ExcKind, Kind, NoMemory, Value};
 use sqlite_items::Items;
 use std::alloc::Global;
 
-/// A builtin function with its arguments (Python Library Reference, "Built-in Functions"). What makes a cell is not built
-/// yet, nor what goes over an object, nor the text of a tuple that holds a reference.
+/// A builtin function with its arguments (Python Library Reference, "Built-in Functions"). `sorted`, and the text of a
+/// tuple that holds a reference, are not built yet.
 pub(crate) fn call_function(
     alloc: Global,
     stack: &mut Vec<Frame>,
@@ -34,7 +39,20 @@ pub(crate) fn call_function(
 {
     match only_reference(alloc, arguments.as_slice())? {
         Some(value) => call_of_object(alloc, stack, store, function, value),
-        None => computed(builtin(alloc, function, arguments.as_slice())),
+        None => call_at_hand(alloc, function, arguments.as_slice()),
+    }
+}
+
+/// A builtin function that asks no object. `sorted` is not built yet.
+fn call_at_hand(alloc: Global, function: Builtin, arguments: &[Value]) -> Result<Next, NoMemory>
+    ensures means { IfOk result (λ next. (stack : List Frame) → Means stack next (builtin_rule function arguments.now) stack) }
+    ensures light { IfOk result (λ next. (stack : List Frame) → IsLight stack next stack) }
+{
+    match function {
+        Builtin::List => list(alloc, arguments),
+        Builtin::Dict => dict(alloc, arguments),
+        Builtin::Range => range(alloc, arguments),
+        _ => computed(builtin(alloc, function, arguments)),
     }
 }
 
@@ -75,12 +93,12 @@ fn call_of_object(
         Builtin::Str => text(stack, value),
         Builtin::Repr => shown(stack, value),
         Builtin::Bool => bool(alloc, stack, value),
-        Builtin::Tuple => drain(alloc, store, Builtin::Tuple, value),
-        Builtin::Min => drain(alloc, store, Builtin::Min, value),
-        Builtin::Max => drain(alloc, store, Builtin::Max, value),
-        Builtin::Sum => drain(alloc, store, Builtin::Sum, value),
-        Builtin::List => drain(alloc, store, Builtin::List, value),
-        Builtin::Sorted => drain(alloc, store, Builtin::Sorted, value),
+        Builtin::Tuple => drain(alloc, stack, store, Builtin::Tuple, value),
+        Builtin::Min => drain(alloc, stack, store, Builtin::Min, value),
+        Builtin::Max => drain(alloc, stack, store, Builtin::Max, value),
+        Builtin::Sum => drain(alloc, stack, store, Builtin::Sum, value),
+        Builtin::List => drain(alloc, stack, store, Builtin::List, value),
+        Builtin::Sorted => drain(alloc, stack, store, Builtin::Sorted, value),
         Builtin::Int => Ok(refuse(Builtin::Int, value)),
         Builtin::Abs => Ok(refuse(Builtin::Abs, value)),
         Builtin::Ord => Ok(refuse(Builtin::Ord, value)),
@@ -146,37 +164,79 @@ fn refuse(function: Builtin, value: Value) -> Next
     Next::Leave(Beyond::Arguments)
 }
 
-/// A function that goes over an object ends by the object's kind. Going over one is not built yet.
-fn drain(alloc: Global, store: &Store, function: Builtin, value: Value) -> Result<Next, NoMemory>
+/// A function that goes over an object, by the object's kind.
+fn drain(
+    alloc: Global,
+    stack: &mut Vec<Frame>,
+    store: &Store,
+    function: Builtin,
+    value: Value,
+) -> Result<Next, NoMemory>
     requires object { is_reference value ≡ true }
     requires drained { drains_object function ≡ true }
-    ensures means { IfOk result (λ next. (stack : List Frame) → MeansAt store.now.cells stack next (builtin_rule function (value ∷ [])) stack) }
-    ensures light { IfOk result (λ next. (stack : List Frame) → IsLight stack next stack) }
+    ensures means { IfOk result (λ next. MeansAt store.now.cells stack.new.items next (builtin_rule function (value ∷ [])) stack.old.items) }
+    ensures light { IfOk result (λ next. IsLight stack.new.items next stack.old.items) }
 {
-    drain_of_kind(alloc, kind_of(store, &value))
+    let kind = kind_of(store, &value);
+    if is_gone_over(kind) {
+        go_over(alloc, stack, function, value)
+    } else {
+        refuse_kind(alloc, kind)
+    }
 }
 
-fn drain_of_kind(alloc: Global, kind: Option<Kind>) -> Result<Next, NoMemory>
+/// Whether an object of this kind is gone over.
+fn is_gone_over(kind: Option<Kind>) -> bool
+    ensures { result ≡ is_gone_over kind }
+{
+    match kind {
+        Some(Kind::List) => true,
+        Some(Kind::Dict) => true,
+        Some(Kind::Range) => true,
+        Some(Kind::View) => true,
+        _ => false,
+    }
+}
+
+/// An object is gone over, for what the function makes of its items.
+fn go_over(
+    alloc: Global,
+    stack: &mut Vec<Frame>,
+    function: Builtin,
+    value: Value,
+) -> Result<Next, NoMemory>
+    ensures means { IfOk result (λ next. Means stack.new.items next (goes_over (container (collection_for function)) value (drained (draining.Builtin function))) stack.old.items) }
+    ensures light { IfOk result (λ next. IsLight stack.new.items next stack.old.items) }
+{
+    let frame = DrainFrame::Iterator {
+        collection: collection_for(function),
+        draining: Draining::Builtin(function),
+    };
+    let operation = special(alloc, value, Special::Iter);
+    operate_over(stack, Frame::Drain(frame), operation)
+}
+
+/// What the items go into, whose limit is judged.
+fn collection_for(function: Builtin) -> Collection
+    ensures { result ≡ collection_for function }
+{
+    match function {
+        Builtin::Tuple => Collection::Tuple,
+        _ => Collection::List,
+    }
+}
+
+/// An object of any other kind is not gone over.
+fn refuse_kind(alloc: Global, kind: Option<Kind>) -> Result<Next, NoMemory>
+    requires { is_gone_over kind ≡ false }
     ensures means { IfOk result (λ next. (over : RuleTree) (stack : List Frame) → Means stack next (drains_kind over kind) stack) }
     ensures light { IfOk result (λ next. (stack : List Frame) → IsLight stack next stack) }
 {
     match kind {
-        Some(Kind::List) => Err(NoMemory),
-        Some(Kind::Dict) => Err(NoMemory),
-        Some(Kind::Range) => Err(NoMemory),
-        Some(Kind::View) => Err(NoMemory),
         Some(Kind::Instance) => Ok(Next::Leave(Beyond::Drain)),
         Some(Kind::Iter) => Ok(Next::Leave(Beyond::Drain)),
         Some(Kind::Namespace) => Ok(Next::Leave(Beyond::Namespace)),
-        Some(Kind::Function) => refuse_items(alloc),
-        Some(Kind::Bound) => refuse_items(alloc),
-        Some(Kind::Class) => refuse_items(alloc),
-        Some(Kind::Host) => refuse_items(alloc),
-        Some(Kind::HostFunc) => refuse_items(alloc),
-        Some(Kind::Root) => refuse_items(alloc),
-        Some(Kind::Conn) => refuse_items(alloc),
-        Some(Kind::Modules) => refuse_items(alloc),
-        None => refuse_items(alloc),
+        _ => refuse_items(alloc),
     }
 }
 

@@ -9,15 +9,15 @@ ghost use Rattle.language_rules.specs.Answers.{gives};
 ghost use Rattle.language_rules.specs.Kinds.{is_reference};
 ghost use Rattle.eval_exprs.specs.Steps.{IsSlight, MeansAnywhere, is_not_implemented};
 
-use crate::asking::{ask_over, fail, is_reference};
-use eval_frames::{ComparisonFrame, Frame, Next};
+use crate::asking::ask_over;
+use eval_frames::{ComparisonFrame, Frame, Next, fail, is_reference};
 use object_operations::{Completion, Operation};
 use rp_base::{CmpOp, ExcKind, IdPack, NoMemory, Plain, Value};
 use std::alloc::Global;
 
 /// A comparison of which one operand at least refers to an object (Python Language Reference, "Comparisons"): the left one
 /// is asked first.
-pub(crate) fn ask_comparison(
+pub fn ask_comparison(
     alloc: Global,
     stack: &mut Vec<Frame>,
     op: CmpOp,

@@ -7,6 +7,7 @@ ghost use Rattle.language_rules.specs.Going.{evaluates_all, evaluates_behind};
 ghost use Rattle.eval_exprs.specs.Steps.{MeansAt};
 
 use crate::builtins::call_function;
+use crate::making::{new_dict, new_list};
 use crate::raising::raise;
 use eval_frames::{ExpressionFrame, Frame, Gathering, Next, enter_over, waiting_numbers};
 use object_operations::{Completion, Env};
@@ -80,6 +81,8 @@ fn gathered(
 {
     match gathering {
         Gathering::Tuple => tuple(alloc, values),
+        Gathering::List => new_list(alloc, values),
+        Gathering::Dict => new_dict(alloc, values),
         Gathering::Raise(kind) => raise(alloc, kind, values),
         Gathering::Builtin(Builtin::Print) => print(values),
         Gathering::Builtin(function) => call_function(alloc, stack, store, function, values),

@@ -11,12 +11,13 @@ ghost use Rattle.language_rules.specs.PlainItems.{contains_in};
 ghost use Rattle.language_rules.specs.Truth.{on_truth};
 ghost use Rattle.eval_exprs.specs.Steps.{IsSlight, MeansAnywhere, asks_link};
 
-use crate::asking::{ask_over, is_reference, special_with};
+use crate::asking::ask_over;
 use crate::comparing::ask_comparison;
 use crate::decide::decide_link;
 use crate::testing::ask_truth;
 use eval_frames::{
-    Decision, ExpressionFrame, Frame, Next, OperationFrame, computed, enter_over, operate,
+    Decision, ExpressionFrame, Frame, Next, OperationFrame, computed, enter_over, is_reference,
+    operate, special_with,
 };
 use object_operations::{Completion, Env, Special};
 use py_ast::{Comparison, Link};

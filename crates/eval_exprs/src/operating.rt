@@ -11,9 +11,10 @@ ghost use Rattle.language_rules.specs.PlainItems.{item_of};
 ghost use Rattle.language_rules.specs.Printing.{gives_text, on_text, on_text_value};
 ghost use Rattle.eval_exprs.specs.Steps.{MeansAt};
 
-use crate::asking::{fail, is_reference, special, special_with};
 use crate::kinds::kind_of;
-use eval_frames::{Next, OperationFrame, computed, operate};
+use eval_frames::{
+    Next, OperationFrame, computed, fail, is_reference, operate, special, special_with,
+};
 use object_operations::{Completion, Special};
 use py_store::Store;
 use rp_base::{Beyond, BinaryOp, ExcKind, NoMemory, Plain, UnaryOp, Value};

@@ -5,8 +5,7 @@ ghost use Rattle.language_rules.specs.Truth.{on_truth};
 ghost use Rattle.language_rules.specs.Codes.{Gives};
 ghost use Rattle.eval_exprs.specs.Steps.{IsLightUnlessTold, IsTold};
 
-use crate::asking::special;
-use eval_frames::{Decision, Frame, Next, operate_over};
+use eval_frames::{Decision, Frame, Next, operate_over, special};
 use object_operations::{Completion, Special};
 use rp_base::{Beyond, NoMemory, Plain, Value};
 use std::alloc::Global;

@@ -1,3 +1,6 @@
 pub mod HandlerFrames
+pub mod ListFrames
+pub mod LoopFrames
 pub mod Meaning
 pub mod ObjectFrames
+pub mod TargetFrames

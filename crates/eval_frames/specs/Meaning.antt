@@ -13,6 +13,7 @@ use Rattle.language_rules.specs.Beginnings.{while_begins}
 use Rattle.language_rules.specs.Builtins.{builtin_rule}
 use Rattle.language_rules.specs.Chains.{or_from, and_from, links_rule, links_from}
 use Rattle.language_rules.specs.Codes.{Completion, Env, Node, Perform, Give, Returns}
+use Rattle.language_rules.specs.Displays.{entries_with, new_dict, new_list}
 use Rattle.language_rules.specs.Functions.{returned}
 use Rattle.language_rules.specs.Going.{RuleTree, boolean, done, evaluates, evaluates_behind, executes_all, gives_new, on_value, operates, sets_cell}
 use Rattle.language_rules.specs.Loops.{next_turn}
@@ -36,7 +37,10 @@ use Rattle.eval_frames.specs.declared.frame.Frame.TheVariants as frame
 use Rattle.eval_frames.specs.declared.frame.Gathering.{Gathering}
 use Rattle.eval_frames.specs.declared.frame.Gathering.TheVariants as gathering
 use Rattle.eval_frames.specs.HandlerFrames.{through_handler}
+use Rattle.eval_frames.specs.ListFrames.{through_addition, through_equality, through_search, through_text}
+use Rattle.eval_frames.specs.LoopFrames.{through_drain, through_for}
 use Rattle.eval_frames.specs.ObjectFrames.{through_comparison, through_operation, through_printing}
+use Rattle.eval_frames.specs.TargetFrames.{through_target}
 use Rattle.eval_frames.specs.declared.frame.StatementFrame.{StatementFrame}
 use Rattle.eval_frames.specs.declared.frame.StatementFrame.TheVariants as statement_frame
 use Rattle.eval_frames.specs.declared.next.Next.{Next}
@@ -59,6 +63,8 @@ decides decision.Bool v holds = gives (boolean holds)
 abbrev pub gathers : Gathering → List Value → RuleTree
 gathers gathering.Tuple vs = tuple_answers (tuple_of vs)
 gathers (gathering.Builtin function) vs = builtin_rule function vs
+gathers gathering.List vs = new_list vs
+gathers gathering.Dict vs = new_dict (entries_with [] vs)
 gathers (gathering.Raise kind) vs = raise_with (Some kind) vs
 
 -- a call of what is called, with its arguments
@@ -95,6 +101,13 @@ resume (frame.Handler f) a = through_handler f a
 resume (frame.Operation f) a = through_operation f a
 resume (frame.Comparison f) a = through_comparison f a
 resume (frame.Printing f) a = through_printing f a
+resume (frame.Target f) a = on_value (through_target f) a
+resume (frame.For f) a = through_for f a
+resume (frame.Drain f) a = through_drain f a
+resume (frame.Search f) a = through_search f a
+resume (frame.Equality f) a = through_equality f a
+resume (frame.Addition f) a = through_addition f a
+resume (frame.Text f) a = through_text f a
 resume (frame.Test d) a = on_value (λ v. on_truth v (decides d v)) a
 resume (frame.Truth d v) a = on_bool (decides d v) a
 resume (frame.While env test body) a = next_turn (while_begins env test body) a

@@ -1,13 +1,18 @@
-ghost use Rattle.std.specs.Prelude.{◌≡◌, ◌+◌, ◌-◌, ◌^◌, IfOk, List, map, min, sum};
+ghost use Rattle.std.specs.Prelude.{◌≡◌, ◌+◌, ◌-◌, ◌^◌, ◌∷◌, [], IfOk, List, map, min, sum};
+ghost use Rattle.object_operations.specs.declared.operation.Operation.TheVariants as operation;
+ghost use Rattle.eval_frames.specs.declared.frame.Frame.{Frame};
 ghost use Rattle.rp_base.specs.Values.{weight_of};
 ghost use Rattle.eval_frames.specs.Meaning.{IsLight, Means, due, operates_over};
 ghost use Rattle.language_rules.specs.Answers.{asked};
-ghost use Rattle.language_rules.specs.Going.{is_asked, is_far, judged_arguments, too_heavy};
+ghost use Rattle.language_rules.specs.Going.{fails, is_asked, is_far, judged_arguments, too_heavy};
+ghost use Rattle.language_rules.specs.Kinds.{is_reference};
 
 use crate::frame::Frame;
 use crate::next::Next;
-use object_operations::Operation;
-use rp_base::{Beyond, HEAVIEST_VALUE, NoMemory, Value, weight};
+use object_operations::{Completion, Operation, Special};
+use rp_base::{Beyond, ExcKind, HEAVIEST_VALUE, NoMemory, Plain, Raised, Text, Value, weight};
+use sqlite_items::Items;
+use std::alloc::Global;
 
 /// An operation, whose arguments are judged first, goes to the home of its receiver.
 pub fn operate(operation: Operation) -> Next
@@ -87,4 +92,55 @@ fn is_of_other(value: &Value) -> bool
     ensures { result ≡ is_far value.now }
 {
     matches!(value, Value::Proxy(_))
+}
+
+/// Whether a value refers to an object.
+pub fn is_reference(value: &Value) -> bool
+    ensures { result ≡ is_reference value.now }
+{
+    match value {
+        Value::Own(_) => true,
+        Value::Proxy(_) => true,
+        Value::Plain(_) => false,
+        Value::Tuple(_) => false,
+    }
+}
+
+/// An operation that Python spells as a method with a special name and no argument.
+pub fn special(alloc: Global, receiver: Value, special: Special) -> Operation
+    ensures { result ≡ operation.Special receiver special [] }
+{
+    Operation::Special {
+        receiver,
+        special,
+        arguments: Items::new(alloc),
+    }
+}
+
+/// The same with one argument.
+pub fn special_with(
+    alloc: Global,
+    receiver: Value,
+    special: Special,
+    argument: Value,
+) -> Result<Operation, NoMemory>
+    ensures { IfOk result (λ o. o ≡ operation.Special receiver special (argument ∷ [])) }
+{
+    let mut arguments = Items::new(alloc);
+    arguments.push(argument)?;
+    Ok(Operation::Special {
+        receiver,
+        special,
+        arguments,
+    })
+}
+
+/// An exception of this kind that has this text.
+pub fn fail(alloc: Global, kind: ExcKind, text: &str) -> Result<Next, NoMemory>
+    ensures means { IfOk result (λ next. (stack : List Frame) → Means stack next (fails kind text.now) stack) }
+    ensures light { IfOk result (λ next. (stack : List Frame) → IsLight stack next stack) }
+{
+    let mut args = Items::new(alloc);
+    args.push(Plain::Text(Text::from_str(alloc, text)?))?;
+    Ok(Next::Give(Completion::Raises(Raised { kind, args })))
 }

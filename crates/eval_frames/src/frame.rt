@@ -1,5 +1,8 @@
 use crate::handler_frame::HandlerFrame;
+use crate::list_frames::{AdditionFrame, EqualityFrame, SearchFrame, TextFrame};
+use crate::loop_frames::{DrainFrame, ForFrame};
 use crate::object_frames::{ComparisonFrame, OperationFrame, PrintingFrame};
+use crate::target_frame::TargetFrame;
 use object_operations::Env;
 use py_ast::{Builtin, Comparison, Link};
 use rp_base::{BinaryOp, ExcKind, Text, UnaryOp, Value};
@@ -51,6 +54,9 @@ pub enum Decision {
 #[derive(Clone, Copy, Debug, PartialEq, Eq)]
 pub enum Gathering {
     Tuple,
+    List,
+    /// Keys and values in turn.
+    Dict,
     Builtin(Builtin),
     /// An exception of this kind, which has the values as its arguments.
     Raise(ExcKind),
@@ -149,6 +155,13 @@ pub enum Frame {
     Operation(OperationFrame),
     Comparison(ComparisonFrame),
     Printing(PrintingFrame),
+    Target(TargetFrame),
+    For(ForFrame),
+    Drain(DrainFrame),
+    Search(SearchFrame),
+    Equality(EqualityFrame),
+    Addition(AdditionFrame),
+    Text(TextFrame),
     /// The truth of the value decides.
     Test(Decision),
     /// The truth of this value was asked of an object.

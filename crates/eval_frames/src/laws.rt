@@ -4,7 +4,7 @@ ghost use Rattle.object_operations.specs.declared.ending.Env.{Env};
 ghost use Rattle.object_operations.specs.declared.operation.Operation.{Operation};
 ghost use Rattle.side_trees.specs.Trees.{Return, bind};
 ghost use Rattle.language_rules.specs.Beginnings.{while_begins};
-ghost use Rattle.language_rules.specs.Codes.{Code, Give};
+ghost use Rattle.language_rules.specs.Codes.{Code, Give, Then};
 ghost use Rattle.language_rules.specs.Going.{RuleTree, operates};
 ghost use Rattle.language_rules.specs.Rules.{expand};
 ghost use Rattle.language_rules.specs.States.{State};
@@ -27,4 +27,9 @@ pub fn what_waits_is_pushed()
 /// A piece of code that goes on with an operation's answer may as well wait for it.
 pub fn code_that_goes_on_waits()
     ensures { (s : State) (o : Operation) (c : Completion → Code) (k : Completion → RuleTree) → RunsAs s (bind (operates o c (λ a. Return a)) k) (bind (operates o (λ a. Give a) (λ a. expand (c a))) k) }
+{}
+
+/// A piece of code that goes on with an operation's answer, and then another, may as well stand one behind the other.
+pub fn code_between_goes_on()
+    ensures { (s : State) (o : Operation) (c f : Completion → Code) (k : Completion → RuleTree) → RunsAs s (bind (operates o (λ a. Then (c a) f) (λ a. Return a)) k) (bind (operates o c (λ a. Return a)) (λ r. bind (expand (f r)) k)) }
 {}

@@ -1,3 +1,5 @@
+pub mod CompareLemmas
 pub mod FunctionLemmas
+pub mod IteratorLemmas
 pub mod PrivateNames
 pub mod SpecialLemmas

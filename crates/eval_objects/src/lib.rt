@@ -1,14 +1,18 @@
-//! Operations that are carried out where their receiver lives, behind their unit: those of functions, and of what is no
-//! object.
+//! Operations that are carried out where their receiver lives, behind their unit: those of functions, lists, ranges,
+//! dicts, views and iterators, and of what is no object.
 #![tactic(auto)]
 
+mod advancing;
 mod attributes;
 mod comparing;
 mod exceptions;
 mod functions;
+mod iterators;
 mod performing;
 mod plain_receivers;
 mod printing;
+mod sources;
 mod specials;
+mod upcoming;
 
 pub use performing::perform;

@@ -21,8 +21,8 @@ use std::alloc::Global;
 /// The number of a side's root.
 const ROOT: u32 = 2;
 
-/// An operation on an own object, or on what is none, behind its unit. Calls belong elsewhere; of objects only functions
-/// are built yet, and the root as a whole.
+/// An operation on an own object, or on what is none, behind its unit. Calls and texts belong elsewhere; instances,
+/// classes, the namespace and what a connection has are not built yet, nor is any attribute.
 pub fn perform(
     alloc: Global,
     stack: &mut Vec<Frame>,
@@ -33,15 +33,7 @@ pub fn perform(
     ensures means { IfOk result (λ next. (fixed : State) → MeansOver (stated fixed store.old.cells texts.now) (stated fixed store.new.cells texts.now) stack.new.items next (perform operation) stack.old.items) }
     ensures light { IfOk result (λ next. IsLight stack.new.items next stack.old.items) }
 {
-    answer(alloc, store, &operation)
-}
-
-/// The answer of an operation that changes nothing.
-fn answer(alloc: Global, store: &Store, operation: &Operation) -> Result<Next, NoMemory>
-    ensures means { IfOk result (λ next. (fixed : State) (texts : List Program) (stack : List Frame) → MeansIn (stated fixed store.now.cells texts) stack next (perform operation.now) stack) }
-    ensures light { IfOk result (λ next. (stack : List Frame) → IsLight stack next stack) }
-{
-    match operation {
+    match &operation {
         Operation::GetRoot => Ok(get_root(store)),
         Operation::GetAttr { receiver, name } => {
             get_attribute(alloc, store, receiver, name.as_str())
@@ -57,12 +49,19 @@ fn answer(alloc: Global, store: &Store, operation: &Operation) -> Result<Next, N
             receiver,
             special,
             arguments,
-        } => special_operation(alloc, store, receiver, *special, arguments.as_slice()),
+        } => special_operation(
+            alloc,
+            stack,
+            store,
+            receiver,
+            *special,
+            arguments.as_slice(),
+        ),
         Operation::Cmp {
             receiver,
             op,
             other,
-        } => compare(store, receiver, *op, other),
+        } => compare(alloc, stack, store, receiver, *op, other),
         Operation::Str(receiver) => str_of(store, receiver),
         Operation::Repr(receiver) => repr_of(store, receiver),
     }

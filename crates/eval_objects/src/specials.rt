@@ -1,19 +1,22 @@
 ghost use Rattle.std.specs.Prelude.{ℕ, ◌∷◌, [], IfOk, List};
 ghost use Rattle.rp_base.specs.declared.value.Value.{Value};
+ghost use Rattle.rp_base.specs.declared.value.Value.TheVariants as value;
 ghost use Rattle.py_ast.specs.declared.program.Program.{Program};
 ghost use Rattle.py_store.specs.declared.cell.Cell.TheVariants as cell;
 ghost use Rattle.eval_frames.specs.declared.frame.Frame.{Frame};
-ghost use Rattle.eval_frames.specs.Meaning.{IsLight, Means, MeansIn};
+ghost use Rattle.eval_frames.specs.Meaning.{IsLight, Means, MeansOver};
 ghost use Rattle.language_rules.specs.AtOnce.{stated};
 ghost use Rattle.language_rules.specs.Perform.{special_of_cell, special_rule};
 ghost use Rattle.language_rules.specs.States.{State};
 
-use crate::exceptions::refuse;
-use crate::functions::of_function;
+use crate::iterators::special_of_iterator;
 use crate::plain_receivers::special_of_plain;
-use eval_frames::Next;
+use eval_dicts::{special_of_dict, special_of_view};
+use eval_frames::{Frame, Next};
+use eval_lists::special_of_list;
+use eval_ranges::{refuse, special_of_range};
 use object_operations::{Completion, Special};
-use py_store::Store;
+use py_store::{Cell, Store};
 use rp_base::{Beyond, NoMemory, Plain, Value};
 use std::alloc::Global;
 
@@ -21,22 +24,53 @@ use std::alloc::Global;
 /// `Leave(NotYet)` for a wrong number of arguments.
 pub(crate) fn special_operation(
     alloc: Global,
-    store: &Store,
+    stack: &mut Vec<Frame>,
+    store: &mut Store,
     receiver: &Value,
     special: Special,
     arguments: &[Value],
 ) -> Result<Next, NoMemory>
-    ensures means { IfOk result (λ next. (fixed : State) (texts : List Program) (stack : List Frame) → MeansIn (stated fixed store.now.cells texts) stack next (special_rule special receiver.now arguments.now) stack) }
-    ensures light { IfOk result (λ next. (stack : List Frame) → IsLight stack next stack) }
+    ensures means { IfOk result (λ next. (fixed : State) (texts : List Program) → MeansOver (stated fixed store.old.cells texts) (stated fixed store.new.cells texts) stack.new.items next (special_rule special receiver.now arguments.now) stack.old.items) }
+    ensures light { IfOk result (λ next. IsLight stack.new.items next stack.old.items) }
 {
     match receiver {
-        Value::Own(number) => {
-            let answer = special_of_function(alloc, special, arguments)?;
-            of_function(store, *number, answer)
-        }
+        Value::Own(number) => special_of_object(alloc, stack, store, *number, special, arguments),
         Value::Plain(_) => special_of_plain(alloc, special, receiver, arguments),
         Value::Tuple(_) => special_of_plain(alloc, special, receiver, arguments),
         Value::Proxy(_) => special_of_plain(alloc, special, receiver, arguments),
+    }
+}
+
+/// A special operation on the object of this number, by its kind. Those on instances, classes, the namespace and what a
+/// connection has are not built yet.
+fn special_of_object(
+    alloc: Global,
+    stack: &mut Vec<Frame>,
+    store: &mut Store,
+    number: u32,
+    special: Special,
+    arguments: &[Value],
+) -> Result<Next, NoMemory>
+    ensures means { IfOk result (λ next. (fixed : State) (texts : List Program) → MeansOver (stated fixed store.old.cells texts) (stated fixed store.new.cells texts) stack.new.items next (special_rule special (value.Own number) arguments.now) stack.old.items) }
+    ensures light { IfOk result (λ next. IsLight stack.new.items next stack.old.items) }
+{
+    match store.get(number) {
+        Some(Cell::Function { .. }) => special_of_function(alloc, special, arguments),
+        Some(Cell::Range { start, stop, step }) => {
+            special_of_range(
+                alloc, store, number, *start, *stop, *step, special, arguments,
+            )
+        }
+        Some(Cell::Iter { .. }) => special_of_iterator(alloc, store, number, special, arguments),
+        Some(Cell::List(_)) => special_of_list(alloc, stack, store, number, special, arguments),
+        Some(Cell::Dict { .. }) => special_of_dict(alloc, store, number, special, arguments),
+        Some(Cell::View { dict, which }) => {
+            special_of_view(
+                alloc, stack, store, number, *dict, *which, special, arguments,
+            )
+        }
+        Some(_) => Err(NoMemory),
+        None => Ok(Next::Leave(Beyond::NotYet)),
     }
 }
 

@@ -1,13 +1,8 @@
 //! The steps of a machine at statements: how each begins, and how it goes on with the value or the end of a part.
 #![tactic(auto)]
 
-mod assigning;
-mod augmenting;
 mod branches;
-mod exceptions;
-mod kinds;
 mod loops;
-mod operands;
 mod steps;
 mod suites;
 

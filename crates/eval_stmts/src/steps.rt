@@ -4,20 +4,19 @@ ghost use Rattle.language_rules.specs.AtOnce.{stated};
 ghost use Rattle.language_rules.specs.States.{State};
 ghost use Rattle.language_rules.specs.Statements.{statement_rule};
 
-use crate::assigning::{assign, bind_value};
-use crate::augmenting::{begin_augmented, bind_augmented};
 use crate::branches::begin_if;
 use crate::loops::begin_while;
 use crate::suites::execute_further;
 use eval_frames::{Frame, Next, StatementFrame, enter_over};
+use eval_targets::{assign, begin_augmented, begin_delete, bind_augmented, bind_value};
 use object_operations::{Completion, Env};
 use py_ast::{Program, Statement};
 use py_store::Store;
 use rp_base::{Beyond, NoMemory, Plain, Value};
 use std::alloc::Global;
 
-/// A statement begins, behind its unit. `def`, `try` and `raise` begin in crates of their own. These are not built yet:
-/// `del`, `for`, `class`, and an augmented assignment to an attribute or an item.
+/// A statement begins, behind its unit. `def`, `try`, `raise` and `for` begin in crates of their own. `class` is not
+/// built yet.
 pub fn begin_statement(
     alloc: Global,
     stack: &mut Vec<Frame>,
@@ -47,6 +46,7 @@ pub fn begin_statement(
         Statement::Augmented { target, op, value } => {
             begin_augmented(alloc, stack, store, texts, env, target, op, value)
         }
+        Statement::Delete(target) => begin_delete(alloc, stack, texts, env, target),
         Statement::Pass => Ok(Next::Give(Completion::Gives(Value::Plain(Plain::None)))),
         Statement::Break => Ok(Next::Give(Completion::Breaks)),
         Statement::Continue => Ok(Next::Give(Completion::Continues)),
@@ -71,8 +71,7 @@ pub fn begin_statement(
     }
 }
 
-/// A statement goes on with the value that it waited for. These are not built yet: that a value goes to an attribute or
-/// an item, and that a list is unpacked.
+/// A statement goes on with the value that it waited for.
 pub fn give_statement(
     alloc: Global,
     stack: &mut Vec<Frame>,
@@ -87,7 +86,9 @@ pub fn give_statement(
     match frame {
         StatementFrame::Alone => Ok(Next::Give(Completion::Gives(Value::Plain(Plain::None)))),
         StatementFrame::Suite { env, waiting } => execute_further(stack, env, waiting),
-        StatementFrame::Assign { env, target } => assign(alloc, store, texts, env, target, value),
+        StatementFrame::Assign { env, target } => {
+            assign(alloc, stack, store, texts, env, target, value)
+        }
         StatementFrame::AugmentName { env, op, name, old } => {
             bind_augmented(alloc, stack, store, texts, env, op, name, old, value)
         }

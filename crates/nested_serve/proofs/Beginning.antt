@@ -1,5 +1,5 @@
 -- A script begins.
-use Rattle.std.proofs.Common.{◌≡◌, ℕ, List, [], ◌∷◌, Option, Some, slice_get, length, refl, sym, subst, ◌∙◌, ap}
+use Rattle.std.proofs.Common.{◌≡◌, ℕ, List, [], ◌∷◌, Option, Some, slice_get, length, refl, sym, subst, ◌∙◌, ap, reverse}
 use Rattle.py_ast.specs.declared.node.Node.{Node}
 use Rattle.py_ast.specs.declared.node.Node.TheVariants as node
 use Rattle.py_ast.specs.declared.program.Program.{Program}
@@ -40,25 +40,26 @@ stands reader program units ns fs n h =
 
 -- in the machine's own words
 in_machine : (reader : Reader) (program : Program) (units : ℕ) (m : Machine) (n : Next)
-    → m.store.cells ≡ first_cells_of program.handler_names → m.texts.items ≡ program ∷ [] → m.handled ≡ [] → printed_by m ≡ []
+    → m.store.cells ≡ first_cells_of program.handler_names → m.texts.items ≡ program ∷ [] → m.handled ≡ [] → m.printing ≡ [] → printed_by m ≡ []
     → runs units (meant m.stack.items n) (started reader program) [] ≡ course (first_state reader []) m n units
-in_machine reader program units m n c t h p =
+in_machine reader program units m n c t h g p =
     ap (λ (cells : List Cell). runs units (meant m.stack.items n) (situated (first_state reader []) cells (program ∷ []) []) []) (sym c)
     ∙ ap (λ (texts : List Program). runs units (meant m.stack.items n) (situated (first_state reader []) m.store.cells texts []) []) (sym t)
     ∙ ap (λ (handled : List Handling). runs units (meant m.stack.items n) (situated (first_state reader []) m.store.cells m.texts.items handled) []) (sym h)
-    ∙ ap (λ (out : List ℕ). runs units (meant m.stack.items n) (record (situated (first_state reader []) m.store.cells m.texts.items m.handled) { printed = length out }) out) (sym p)
+    ∙ ap (λ (shown : List ℕ). runs units (meant m.stack.items n) (record (situated (first_state reader []) m.store.cells m.texts.items m.handled) { printing = reverse shown }) []) (sym g)
+    ∙ ap (λ (out : List ℕ). runs units (meant m.stack.items n) (record (situated (first_state reader []) m.store.cells m.texts.items m.handled) { printed = length out; printing = reverse m.printing }) out) (sym p)
 
 pub begins : (program : Program) (ns : List ℕ) (m : Machine) (n : Next) → IsScriptOf program ns
-    → m.store.cells ≡ first_cells_of program.handler_names → m.texts.items ≡ program ∷ [] → m.handled ≡ [] → printed_by m ≡ [] → Means m.stack.items n (executes_all (top_of 0) ns) [] → Begins program m n
-begins program ns m n is c t h p does reader units =
+    → m.store.cells ≡ first_cells_of program.handler_names → m.texts.items ≡ program ∷ [] → m.handled ≡ [] → m.printing ≡ [] → printed_by m ≡ [] → Means m.stack.items n (executes_all (top_of 0) ns) [] → Begins program m n
+begins program ns m n is c t h g p does reader units =
     reserved reader program units
     ∙ body reader program units ns is
     ∙ stands reader program units ns m.stack.items n does
-    ∙ in_machine reader program units m n c t h p
+    ∙ in_machine reader program units m n c t h g p
 
 -- a first machine on whose stack the statements were put
 pub begins_first : (program : Program) (ns : List ℕ) (m m' : Machine) (n : Next) → IsScriptOf program ns → IsFirst program m
-    → m'.store.cells ≡ m.store.cells → m'.texts.items ≡ m.texts.items → m'.handled ≡ m.handled → printed_by m' ≡ printed_by m → Means m'.stack.items n (executes_all (top_of 0) ns) m.stack.items → Begins program m' n
-begins_first program ns m m' n is first c t h p does =
-    begins program ns m' n is (c ∙ first.cells) (t ∙ first.texts) (h ∙ first.handled) (p ∙ first.printed)
+    → m'.store.cells ≡ m.store.cells → m'.texts.items ≡ m.texts.items → m'.handled ≡ m.handled → m'.printing ≡ m.printing → printed_by m' ≡ printed_by m → Means m'.stack.items n (executes_all (top_of 0) ns) m.stack.items → Begins program m' n
+begins_first program ns m m' n is first c t h g p does =
+    begins program ns m' n is (c ∙ first.cells) (t ∙ first.texts) (h ∙ first.handled) (g ∙ first.printing) (p ∙ first.printed)
     (subst (λ (before : List Frame). Means m'.stack.items n (executes_all (top_of 0) ns) before) first.idle does)

@@ -28,7 +28,7 @@ printed_by m = string_bytes m.printed
 
 -- the state of the side, but for what the machine does not keep
 abbrev pub state_in : State → Machine → State
-state_in fixed m = record (situated fixed m.store.cells m.texts.items m.handled) { printed = length (printed_by m) }
+state_in fixed m = record (situated fixed m.store.cells m.texts.items m.handled) { printed = length (printed_by m); printing = reverse m.printing }
 
 -- the run of a computation over the machine's cells, texts and output
 abbrev pub runs_over : State → Machine → RuleTree → ℕ → ScriptEnd
@@ -94,4 +94,5 @@ pub record IsFirst (program : Program) (m : Machine) : Type 0 where
   pub texts : m.texts.items ≡ program ∷ []
   pub idle : m.stack.items ≡ []
   pub handled : m.handled ≡ []
+  pub printing : m.printing ≡ []
   pub printed : printed_by m ≡ []

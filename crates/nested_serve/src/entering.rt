@@ -8,6 +8,7 @@ use eval_calls::begin_def;
 use eval_exprs::begin_expression;
 use eval_frames::{Frame, Next, node_at};
 use eval_handlers::{begin_raise_call, begin_try, raise_again, raise_name};
+use eval_loops::begin_for;
 use eval_stmts::begin_statement;
 use object_operations::{Env, Handling};
 use py_ast::{Node, Program, Statement};
@@ -67,6 +68,11 @@ fn enter_statement(
             handlers.as_slice(),
             *finally,
         ),
+        &Statement::For {
+            target,
+            source,
+            body,
+        } => begin_for(stack, env, target, source, body),
         Statement::RaiseAgain => raise_again(alloc, handled, env),
         Statement::RaiseName(name) => raise_name(alloc, handled, env, name.text.as_str()),
         Statement::RaiseCall { name, arguments } => {

@@ -1,6 +1,7 @@
 ghost use Rattle.std.specs.Prelude.{IfOk, List};
 ghost use Rattle.py_store.specs.declared.cell.Cell.{Cell};
 ghost use Rattle.eval_frames.specs.Meaning.{IsLight, MeansIn, MeansOver, decides, resume, through_expression, through_statement};
+ghost use Rattle.eval_frames.specs.TargetFrames.{through_target};
 ghost use Rattle.language_rules.specs.AtOnce.{stated};
 ghost use Rattle.language_rules.specs.States.{State};
 ghost use Rattle.language_rules.specs.Truth.{on_bool, on_truth};
@@ -8,12 +9,16 @@ ghost use Rattle.language_rules.specs.Going.{on_value};
 ghost use Rattle.nested_serve.specs.Machines.{IsValueOf};
 
 use eval_calls::{empty_call, end_call};
+use eval_draining::give_drain;
 use eval_exprs::{
     ask_truth, decide_and, decide_bool, decide_conditional, decide_link, decide_not, decide_or,
     give_comparison, give_expression, give_operation, told_truth,
 };
-use eval_frames::{Decision, ExpressionFrame, Frame, Next, StatementFrame};
+use eval_frames::{Decision, ExpressionFrame, Frame, Next, StatementFrame, TargetFrame};
+use eval_loops::give_for;
+use eval_searching::{give_addition, give_equality, give_search};
 use eval_stmts::{decide_if, decide_while, end_turn, give_statement};
+use eval_targets::give_target;
 use object_operations::Completion;
 use py_ast::Program;
 use py_store::Store;
@@ -21,7 +26,8 @@ use rp_base::{NoMemory, OpEnd, Value};
 use std::alloc::Global;
 use value_operators::truth;
 
-/// What waits goes on with the end that it waits for, but for handlers and what is printed.
+/// What waits goes on with the end that it waits for, but for handlers, for what is printed and for texts of lists and
+/// dicts.
 pub fn give(
     alloc: Global,
     stack: &mut Vec<Frame>,
@@ -44,7 +50,13 @@ pub fn give(
         }
         Frame::Operation(frame) => give_operation(alloc, frame, completion),
         Frame::Comparison(frame) => give_comparison(alloc, stack, frame, completion),
-        Frame::Handler(_) | Frame::Printing(_) => Err(NoMemory),
+        Frame::Handler(_) | Frame::Printing(_) | Frame::Text(_) => Err(NoMemory),
+        Frame::Target(frame) => give_to_target(alloc, stack, store, texts, frame, completion),
+        Frame::For(frame) => give_for(alloc, stack, store, texts, frame, completion),
+        Frame::Drain(frame) => give_drain(alloc, stack, store, texts, frame, completion),
+        Frame::Search(frame) => give_search(alloc, stack, store, frame, completion),
+        Frame::Equality(frame) => give_equality(alloc, stack, store, frame, completion),
+        Frame::Addition(frame) => give_addition(alloc, stack, store, frame, completion),
         Frame::Expression(frame) => give_to_expression(alloc, stack, store, frame, completion),
         Frame::Statement(frame) => {
             give_to_statement(alloc, stack, store, texts, frame, completion)
@@ -82,6 +94,23 @@ fn give_to_statement(
 {
     match value_of(completion) {
         Ok(value) => give_statement(alloc, stack, store, texts, frame, value),
+        Err(end) => Ok(Next::Give(end)),
+    }
+}
+
+fn give_to_target(
+    alloc: Global,
+    stack: &mut Vec<Frame>,
+    store: &mut Store,
+    texts: &[Program],
+    frame: TargetFrame,
+    completion: Completion,
+) -> Result<Next, NoMemory>
+    ensures means { IfOk result (λ next. (fixed : State) → MeansOver (stated fixed store.old.cells texts.now) (stated fixed store.new.cells texts.now) stack.new.items next (on_value (through_target frame) completion) stack.old.items) }
+    ensures light { IfOk result (λ next. IsLight stack.new.items next stack.old.items) }
+{
+    match value_of(completion) {
+        Ok(value) => give_target(alloc, stack, store, texts, frame, value),
         Err(end) => Ok(Next::Give(end)),
     }
 }

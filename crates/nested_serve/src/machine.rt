@@ -5,14 +5,15 @@ use py_store::Store;
 use rp_base::Beyond;
 use sqlite_items::Items;
 
-/// A side that runs scripts: its cells, its texts, what waits, the exceptions that are being handled, the innermost
-/// last, and what it printed.
+/// A side that runs scripts: its cells, its texts, what waits, the exceptions that are being handled and the lists and
+/// dicts whose texts are under way, the innermost last, and what it printed.
 #[derive(Drop)]
 pub struct Machine {
     pub store: Store,
     pub texts: Vec<Program>,
     pub stack: Vec<Frame>,
     pub handled: Items<Handling>,
+    pub printing: Items<u32>,
     pub printed: String,
 }
 

@@ -9,6 +9,7 @@ use crate::running::Progress;
 use eval_calls::call;
 use eval_frames::Next;
 use eval_objects::perform;
+use eval_texts::{repr_of, str_of};
 use object_operations::{Completion, Operation};
 use py_store::Cell;
 use rp_base::{NoMemory, Value};
@@ -52,6 +53,20 @@ fn begin_operation(
             &machine.texts,
             &callee,
             arguments,
+        ),
+        Operation::Str(receiver) => str_of(
+            alloc,
+            &mut machine.stack,
+            &machine.store,
+            &mut machine.printing,
+            &receiver,
+        ),
+        Operation::Repr(receiver) => repr_of(
+            alloc,
+            &mut machine.stack,
+            &machine.store,
+            &mut machine.printing,
+            &receiver,
         ),
         operation => perform(
             alloc,

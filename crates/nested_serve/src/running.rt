@@ -2,6 +2,7 @@ ghost use Rattle.std.specs.Prelude.{◌≤◌, ℕ, IfOk};
 ghost use Rattle.eval_frames.specs.declared.next.Next.TheVariants as next;
 ghost use Rattle.eval_frames.specs.HandlerFrames.{through_handler};
 ghost use Rattle.eval_frames.specs.Meaning.{IsLight, resume};
+ghost use Rattle.eval_frames.specs.ListFrames.{through_text};
 ghost use Rattle.eval_frames.specs.ObjectFrames.{through_printing};
 ghost use Rattle.language_rules.specs.Nodes.{node_rule};
 ghost use Rattle.nested_serve.specs.Machines.{Advances, GoesOn, Halts};
@@ -10,8 +11,9 @@ use crate::entering::enter;
 use crate::giving::give;
 use crate::machine::{Halt, Machine};
 use crate::performing::{advance_making, advance_performing};
-use eval_frames::{Frame, HandlerFrame, Next, PrintingFrame};
+use eval_frames::{Frame, HandlerFrame, Next, PrintingFrame, TextFrame};
 use eval_handlers::give_handler;
+use eval_texts::give_text;
 use object_operations::{Completion, Env};
 use print_output::{give_printing, print};
 use rp_base::{NoMemory, Plain, Value};
@@ -131,6 +133,7 @@ fn give_frame(
     match frame {
         Frame::Handler(frame) => give_to_handler(alloc, machine, frame, completion),
         Frame::Printing(frame) => give_to_printing(alloc, machine, frame, completion),
+        Frame::Text(frame) => give_to_text(alloc, machine, frame, completion),
         frame => give(
             alloc,
             &mut machine.stack,
@@ -174,6 +177,25 @@ fn give_to_printing(
         alloc,
         &mut machine.stack,
         &mut machine.printed,
+        frame,
+        completion,
+    )
+}
+
+fn give_to_text(
+    alloc: Global,
+    machine: &mut Machine,
+    frame: TextFrame,
+    completion: Completion,
+) -> Result<Next, NoMemory>
+    ensures means { IfOk result (λ next. GoesOn machine.old (through_text frame completion) machine.new next) }
+    ensures light { IfOk result (λ next. IsLight machine.new.stack.items next machine.old.stack.items) }
+{
+    give_text(
+        alloc,
+        &mut machine.stack,
+        &machine.store,
+        &mut machine.printing,
         frame,
         completion,
     )

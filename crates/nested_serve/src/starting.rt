@@ -61,6 +61,7 @@ fn first_machine(alloc: Global, program: Program) -> Result<Machine, NoMemory>
         texts,
         stack: Vec::new(alloc),
         handled: Items::new(alloc),
+        printing: Items::new(alloc),
         printed: String::new(alloc),
     })
 }

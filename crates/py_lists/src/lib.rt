@@ -10,4 +10,4 @@ mod positions;
 mod tests;
 
 pub use methods::MOST_ITEMS;
-pub use operations::{change_list, list_method, read_list};
+pub use operations::{change_list, list_method, put_list, read_list, take_list};

@@ -81,7 +81,7 @@ fn list_of(store: &Store, number: u32) -> &[Value]
 
 /// Takes the items of the list out, and leaves another cell in its place.
 #[tactic(auto, using(crate::proofs::CellLemmas::list_is_there))]
-fn take_list(store: &mut Store, number: u32) -> Values
+pub fn take_list(store: &mut Store, number: u32) -> Values
     requires { IsList store.old.cells number }
     ensures items { cell_of store.old.cells number ≡ Some (cell.List result) }
     ensures left { store.new ≡ record store.old { cells = with_cell store.old.cells number cell.Root } }
@@ -94,7 +94,7 @@ fn take_list(store: &mut Store, number: u32) -> Values
 }
 
 /// Puts items in the place of the cell of this number.
-fn put_list(store: &mut Store, number: u32, items: Values)
+pub fn put_list(store: &mut Store, number: u32, items: Values)
     requires { (0 < number) × (number ≤ length store.old.cells) }
     ensures { store.new ≡ record store.old { cells = with_cell store.old.cells number (cell.List items) } }
 {

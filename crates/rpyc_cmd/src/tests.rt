@@ -282,10 +282,17 @@ const CLOSURES: &[u8] =
 const RETURNS: &[u8] =
     b"def g():\n    try:\n        return 1\n    finally:\n        print('x')\nprint(g())\n";
 
+const LISTS: &[u8] =
+    b"a = [3, 1]\na[0] = 5\na += (7,)\nfor x in a:\n    print(x)\nprint(a, 7 in a, a == [5, 1, 7], len(a))\n";
+
+/// A list that grows while it is gone over.
+const GROWING: &[u8] =
+    b"a = [1]\nfor x in a:\n    if x < 3:\n        a += [x + 1]\nprint(a, list(range(0, 5, 2)), sum(range(4)))\n";
+
 #[test]
 fn scripts_alone(rt: HostRuntime) -> Result<(), Fail> {
     let alloc = rt.alloc();
-    let runs: [Alone; 16] = [
+    let runs: [Alone; 20] = [
         (
             b"print(1)\n",
             &["--fuel", "2"],
@@ -372,10 +379,34 @@ fn scripts_alone(rt: HostRuntime) -> Result<(), Fail> {
             "A 0\nend raised A ValueError('a', 1)\nunits 4\n",
         ),
         (
-            b"print(1)\n\nx = [1]\n",
+            b"print(1)\n\nx = sorted(())\n",
             &[],
             Status::Script,
             "rpyc: a.py line 3 rule NotYet\n",
+        ),
+        (
+            LISTS,
+            &[],
+            Status::Done,
+            "A 28\n5\n1\n7\n[5, 1, 7] True True 3\nend done\nunits 52\n",
+        ),
+        (
+            b"a = [0]\na[0] = a\nprint(a)\n",
+            &[],
+            Status::Beyond,
+            "A 0\nend beyond CyclicRepr\nunits 13\n",
+        ),
+        (
+            GROWING,
+            &[],
+            Status::Done,
+            "A 22\n[1, 2, 3] [0, 2, 4] 6\nend done\nunits 64\n",
+        ),
+        (
+            b"d = {1: \"one\"}\nd[True] = \"yes\"\nprint(d, 1 in d)\n",
+            &[],
+            Status::Done,
+            "A 16\n{1: 'yes'} True\nend done\nunits 17\n",
         ),
     ];
     for (script, options, status, text) in runs {

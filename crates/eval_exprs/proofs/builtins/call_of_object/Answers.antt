@@ -2,7 +2,7 @@ use Rattle.std.proofs.Common.{[], ◌∷◌, Ok}
 use Rattle.py_ast.specs.declared.builtin.Builtin.TheVariants as builtin
 use Rattle.language_rules.specs.Builtins.{builtin_rule}
 use Rattle.eval_exprs.proofs.Cases.{at_function}
-use Rattle.eval_exprs.proofs.Moving.{at_cells, over_one_at}
+use Rattle.eval_exprs.proofs.Moving.{at_cells}
 use Rattle.eval_exprs.proofs.builtins.call_of_object.Goals as goal
 
 pub returns-in-Str-clause-means : goal.returns-in-Str-clause-means
@@ -15,22 +15,22 @@ pub returns-in-Bool-clause-means : goal.returns-in-Bool-clause-means
 returns-in-Bool-clause-means c = at_function c.bool.result c.bool.new.stack.items c.args.stack.now.items c.args.store.now.cells (c.args.value ∷ []) c.args.function builtin.Bool c.in-Bool.is (at_cells c.bool.result c.bool.new.stack.items c.args.stack.now.items c.args.store.now.cells (builtin_rule builtin.Bool (c.args.value ∷ [])) c.bool.ensures.means)
 
 pub returns-in-Tuple-clause-means : goal.returns-in-Tuple-clause-means
-returns-in-Tuple-clause-means c = at_function c.drain.result c.args.stack.now.items c.args.stack.now.items c.args.store.now.cells (c.args.value ∷ []) c.args.function builtin.Tuple c.in-Tuple.is (over_one_at c.drain.result c.args.stack.now.items c.args.store.now.cells (builtin_rule builtin.Tuple (c.args.value ∷ [])) c.drain.ensures.means)
+returns-in-Tuple-clause-means c = at_function c.drain.result c.drain.new.stack.items c.args.stack.now.items c.args.store.now.cells (c.args.value ∷ []) c.args.function builtin.Tuple c.in-Tuple.is c.drain.ensures.means
 
 pub returns-in-Min-clause-means : goal.returns-in-Min-clause-means
-returns-in-Min-clause-means c = at_function c.drain-in-Min.result c.args.stack.now.items c.args.stack.now.items c.args.store.now.cells (c.args.value ∷ []) c.args.function builtin.Min c.in-Min.is (over_one_at c.drain-in-Min.result c.args.stack.now.items c.args.store.now.cells (builtin_rule builtin.Min (c.args.value ∷ [])) c.drain-in-Min.ensures.means)
+returns-in-Min-clause-means c = at_function c.drain-in-Min.result c.drain-in-Min.new.stack.items c.args.stack.now.items c.args.store.now.cells (c.args.value ∷ []) c.args.function builtin.Min c.in-Min.is c.drain-in-Min.ensures.means
 
 pub returns-in-Max-clause-means : goal.returns-in-Max-clause-means
-returns-in-Max-clause-means c = at_function c.drain-in-Max.result c.args.stack.now.items c.args.stack.now.items c.args.store.now.cells (c.args.value ∷ []) c.args.function builtin.Max c.in-Max.is (over_one_at c.drain-in-Max.result c.args.stack.now.items c.args.store.now.cells (builtin_rule builtin.Max (c.args.value ∷ [])) c.drain-in-Max.ensures.means)
+returns-in-Max-clause-means c = at_function c.drain-in-Max.result c.drain-in-Max.new.stack.items c.args.stack.now.items c.args.store.now.cells (c.args.value ∷ []) c.args.function builtin.Max c.in-Max.is c.drain-in-Max.ensures.means
 
 pub returns-in-Sum-clause-means : goal.returns-in-Sum-clause-means
-returns-in-Sum-clause-means c = at_function c.drain-in-Sum.result c.args.stack.now.items c.args.stack.now.items c.args.store.now.cells (c.args.value ∷ []) c.args.function builtin.Sum c.in-Sum.is (over_one_at c.drain-in-Sum.result c.args.stack.now.items c.args.store.now.cells (builtin_rule builtin.Sum (c.args.value ∷ [])) c.drain-in-Sum.ensures.means)
+returns-in-Sum-clause-means c = at_function c.drain-in-Sum.result c.drain-in-Sum.new.stack.items c.args.stack.now.items c.args.store.now.cells (c.args.value ∷ []) c.args.function builtin.Sum c.in-Sum.is c.drain-in-Sum.ensures.means
 
 pub returns-in-List-clause-means : goal.returns-in-List-clause-means
-returns-in-List-clause-means c = at_function c.drain-in-List.result c.args.stack.now.items c.args.stack.now.items c.args.store.now.cells (c.args.value ∷ []) c.args.function builtin.List c.in-List.is (over_one_at c.drain-in-List.result c.args.stack.now.items c.args.store.now.cells (builtin_rule builtin.List (c.args.value ∷ [])) c.drain-in-List.ensures.means)
+returns-in-List-clause-means c = at_function c.drain-in-List.result c.drain-in-List.new.stack.items c.args.stack.now.items c.args.store.now.cells (c.args.value ∷ []) c.args.function builtin.List c.in-List.is c.drain-in-List.ensures.means
 
 pub returns-in-Sorted-clause-means : goal.returns-in-Sorted-clause-means
-returns-in-Sorted-clause-means c = at_function c.drain-in-Sorted.result c.args.stack.now.items c.args.stack.now.items c.args.store.now.cells (c.args.value ∷ []) c.args.function builtin.Sorted c.in-Sorted.is (over_one_at c.drain-in-Sorted.result c.args.stack.now.items c.args.store.now.cells (builtin_rule builtin.Sorted (c.args.value ∷ [])) c.drain-in-Sorted.ensures.means)
+returns-in-Sorted-clause-means c = at_function c.drain-in-Sorted.result c.drain-in-Sorted.new.stack.items c.args.stack.now.items c.args.store.now.cells (c.args.value ∷ []) c.args.function builtin.Sorted c.in-Sorted.is c.drain-in-Sorted.ensures.means
 
 pub returns-in-Int-clause-means : goal.returns-in-Int-clause-means
 returns-in-Int-clause-means c = at_function (Ok c.refuse.result) c.args.stack.now.items c.args.stack.now.items c.args.store.now.cells (c.args.value ∷ []) c.args.function builtin.Int c.in-Int.is (at_cells (Ok c.refuse.result) c.args.stack.now.items c.args.stack.now.items c.args.store.now.cells (builtin_rule builtin.Int (c.args.value ∷ [])) (c.refuse.ensures.means c.args.stack.now.items))

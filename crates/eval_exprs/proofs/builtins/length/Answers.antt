@@ -1,7 +1,6 @@
 use Rattle.std.proofs.Common.{[], ◌∷◌}
 use Rattle.py_ast.specs.declared.builtin.Builtin.TheVariants as builtin
 use Rattle.language_rules.specs.Builtins.{builtin_rule}
-use Rattle.object_operations.specs.declared.special.Special.TheVariants as special
 use Rattle.object_operations.specs.declared.operation.Operation.{Operation}
 use Rattle.std.proofs.Common.{ap, ◌∙◌}
 use Rattle.language_rules.specs.Answers.{asked}

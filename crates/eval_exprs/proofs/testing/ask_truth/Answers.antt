@@ -1,4 +1,3 @@
-use Rattle.object_operations.specs.declared.operation.Operation.TheVariants as operation
 use Rattle.std.proofs.Common.{◌∙◌, ap}
 use Rattle.language_rules.specs.Truth.{on_truth}
 use Rattle.eval_frames.specs.declared.frame.Frame.TheVariants as frame

@@ -1,7 +1,7 @@
 use Rattle.std.proofs.Common.{◌∙◌, ap, sym, ℕ, List}
 use Rattle.py_ast.specs.declared.statement.Statement.TheVariants as statement
 use Rattle.language_rules.specs.Statements.{statement_rule}
-use Rattle.nested_serve.proofs.Steps.{as_situated, at_stack, at_statement, over_texts, raised_over}
+use Rattle.nested_serve.proofs.Steps.{anywhere, as_situated, at_stack, at_statement, over_texts, raised_over}
 use Rattle.nested_serve.proofs.entering.enter_statement.Goals as goal
 
 pub returns-in-Def-clause-means : goal.returns-in-Def-clause-means
@@ -17,6 +17,12 @@ returns-in-Try-clause-means c =
     at_statement c.begin_try.result c.args.stack.now.items c.begin_try.new.stack.items c.args.store.now.cells c.args.store.now.cells c.args.texts.now c.args.handled.now c.args.env c.args.statement.now s
     (c.in-Try.is ∙ ap (λ (handlers : List ℕ). statement.Try c.in-Try.body handlers c.in-Try.finally) (sym c.as_slice.ensures))
     (over_texts c.begin_try.result c.args.stack.now.items c.begin_try.new.stack.items c.args.store.now.cells c.args.texts.now c.args.handled.now (statement_rule c.args.env s) c.begin_try.ensures.means)
+
+pub returns-in-For-clause-means : goal.returns-in-For-clause-means
+returns-in-For-clause-means c =
+    let s = statement.For c.in-For.target c.in-For.source c.in-For.body in
+    at_statement c.begin_for.result c.args.stack.now.items c.begin_for.new.stack.items c.args.store.now.cells c.args.store.now.cells c.args.texts.now c.args.handled.now c.args.env c.args.statement.now s c.in-For.is
+    (anywhere c.begin_for.result c.args.stack.now.items c.begin_for.new.stack.items c.args.store.now.cells c.args.texts.now c.args.handled.now (statement_rule c.args.env s) c.begin_for.ensures.means)
 
 pub returns-in-RaiseAgain-clause-means : goal.returns-in-RaiseAgain-clause-means
 returns-in-RaiseAgain-clause-means c =

@@ -1,0 +1,3 @@
+pub mod AskingNext
+pub mod Counting
+pub mod Growing

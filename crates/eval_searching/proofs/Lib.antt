@@ -1,0 +1,5 @@
+pub mod AddLaws
+pub mod CompareLaws
+pub mod FoundLaws
+pub mod StateLaws
+pub mod ValueLaws

@@ -1,0 +1,4 @@
+pub mod Added
+pub mod Compared
+pub mod Searched
+pub mod Values
