@@ -1,0 +1,3 @@
+pub mod KeyOrders
+pub mod Rows
+pub mod StableSorts
