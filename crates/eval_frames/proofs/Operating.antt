@@ -7,8 +7,8 @@ use Rattle.object_operations.specs.declared.operation.Operation.{Operation}
 use Rattle.side_trees.proofs.BindLaw.{bind-bind}
 use Rattle.side_trees.specs.Trees.{Ask, Do, Return, Stop, bind}
 use Rattle.language_rules.specs.Answers.{asked}
-use Rattle.language_rules.specs.Codes.{Code, Completion, Give, Perform, Then}
-use Rattle.language_rules.specs.Going.{RuleTree, is_asked, judged_arguments, operates, too_heavy}
+use Rattle.language_rules.specs.Codes.{Asks, Code, Completion, Ends, Give, Go, Leaves, Perform, Step, Then}
+use Rattle.language_rules.specs.Going.{RuleTree, and_then, carry, is_asked, judged_arguments, operates, too_heavy}
 use Rattle.language_rules.specs.Perform.{perform}
 use Rattle.language_rules.specs.Rules.{expand}
 use Rattle.language_rules.specs.Running.{runs}
@@ -70,3 +70,10 @@ pushed_over o f n before now p h =
     ∙ ap (λ (fs : List Frame). bind (asked o) (rest fs)) (reverse-append before (f ∷ []))
     ∙ operates_bound o (λ a. Give a) (λ a. Return a) (rest (f ∷ reverse before))
     ∙ sym (operates_bound o (λ a. Give a) (resume f) (rest (reverse before)))
+
+-- a step behind another
+pub step_behind : (s : State) (t : Step) (f : Completion → Step) (k : Completion → RuleTree)
+    → RunsAs s (bind (carry (and_then t f)) k) (bind (carry t) (λ a. bind (carry (f a)) k))
+step_behind s (Ends a) f k units printed = refl
+step_behind s (Leaves b) f k units printed = refl
+step_behind s (Asks o c) f k units printed = code_goes_on s o c (λ e. Go (f e)) k units printed

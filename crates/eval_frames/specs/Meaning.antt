@@ -1,5 +1,5 @@
 -- What a frame makes of the end that it waits for, and what a whole stack does next.
-use Rattle.std.specs.Prelude.{◌≡◌, ◌+◌, ◌*◌, ◌≤◌, ℕ, Bool, not, List, [], ◌∷◌, ◌++◌, length, reverse, Some, if◌then◌else◌}
+use Rattle.std.specs.Prelude.{◌≡◌, ◌+◌, ◌*◌, ◌≤◌, ℕ, Bool, true, false, not, List, [], ◌∷◌, ◌++◌, length, reverse, Some, if◌then◌else◌}
 use Rattle.rp_base.specs.Values.{tuple_of}
 use Rattle.rp_base.specs.declared.value.Value.{Value}
 use Rattle.py_ast.specs.declared.program.Program.{Program}
@@ -12,10 +12,11 @@ use Rattle.language_rules.specs.Answers.{asked, tuple_answers, evaluated, gives}
 use Rattle.language_rules.specs.Beginnings.{while_begins}
 use Rattle.language_rules.specs.Builtins.{builtin_rule}
 use Rattle.language_rules.specs.Chains.{or_from, and_from, links_rule, links_from}
-use Rattle.language_rules.specs.Codes.{Completion, Env, Node, Perform, Give, Returns}
+use Rattle.language_rules.specs.Codes.{Completion, Env, Member, Node, Perform, Give, Returns}
+use Rattle.language_rules.specs.Comparing.{found_step}
 use Rattle.language_rules.specs.Displays.{entries_with, new_dict, new_list}
 use Rattle.language_rules.specs.Functions.{returned}
-use Rattle.language_rules.specs.Going.{RuleTree, boolean, done, evaluates, evaluates_behind, executes_all, gives_new, on_value, operates, sets_cell}
+use Rattle.language_rules.specs.Going.{RuleTree, boolean, carry, done, evaluates, evaluates_behind, executes_all, gives_new, on_value, operates, sets_cell}
 use Rattle.language_rules.specs.Loops.{next_turn}
 use Rattle.language_rules.specs.Names.{binds_name}
 use Rattle.language_rules.specs.Operators.{unary_rule, binary_rule, augmented_rule}
@@ -23,7 +24,8 @@ use Rattle.language_rules.specs.Output.{prints}
 use Rattle.language_rules.specs.PlainItems.{item_of}
 use Rattle.language_rules.specs.Running.{runs}
 use Rattle.language_rules.specs.Raising.{raise_with}
-use Rattle.language_rules.specs.States.{Handling, State}
+use Rattle.language_rules.specs.Searching.{search_tuple_step}
+use Rattle.language_rules.specs.States.{Handling, MadeClass, State}
 use Rattle.language_rules.specs.Statements.{otherwise_rule}
 use Rattle.language_rules.specs.Targets.{assigns}
 use Rattle.language_rules.specs.Texts.{executes_suite}
@@ -36,9 +38,12 @@ use Rattle.eval_frames.specs.declared.frame.Frame.{Frame}
 use Rattle.eval_frames.specs.declared.frame.Frame.TheVariants as frame
 use Rattle.eval_frames.specs.declared.frame.Gathering.{Gathering}
 use Rattle.eval_frames.specs.declared.frame.Gathering.TheVariants as gathering
+use Rattle.eval_frames.specs.declared.frame.ValuePair.{ValuePair}
+use Rattle.eval_frames.specs.ClassFrames.{through_class}
 use Rattle.eval_frames.specs.HandlerFrames.{through_handler}
 use Rattle.eval_frames.specs.ListFrames.{through_addition, through_equality, through_search, through_text}
 use Rattle.eval_frames.specs.LoopFrames.{through_drain, through_for}
+use Rattle.eval_frames.specs.MethodFrames.{through_method}
 use Rattle.eval_frames.specs.ObjectFrames.{through_comparison, through_operation, through_printing}
 use Rattle.eval_frames.specs.TargetFrames.{through_target}
 use Rattle.eval_frames.specs.declared.frame.StatementFrame.{StatementFrame}
@@ -47,6 +52,11 @@ use Rattle.eval_frames.specs.declared.next.Next.{Next}
 use Rattle.eval_frames.specs.declared.next.Next.TheVariants as next
 
 -- ---- frames
+
+-- whether the values of each pair are one object or equal, in turn, up to the first pair that are not
+abbrev pub all_equal : List ValuePair → RuleTree
+all_equal [] = gives (boolean true)
+all_equal (p ∷ ps) = bind (carry (found_step p.left p.right)) (on_bool (λ b. if b then all_equal ps else gives (boolean false)))
 
 -- what is done by the truth of a value
 abbrev pub decides : Decision → Value → Bool → RuleTree
@@ -58,6 +68,8 @@ decides (decision.Link env left l waiting) v holds = if holds then evaluates env
 decides (decision.If env body otherwise) v holds = if holds then executes_suite env body else otherwise_rule env otherwise
 decides (decision.While env test body) v holds = if holds then bind (executes_suite env body) (next_turn (while_begins env test body)) else Return done
 decides decision.Bool v holds = gives (boolean holds)
+decides (decision.Pairs waiting) v holds = if holds then all_equal (reverse waiting) else gives (boolean false)
+decides (decision.Found wanted waiting) v holds = if holds then gives (boolean true) else carry (search_tuple_step (reverse waiting) wanted)
 
 -- what is made of values
 abbrev pub gathers : Gathering → List Value → RuleTree
@@ -108,6 +120,8 @@ resume (frame.Search f) a = through_search f a
 resume (frame.Equality f) a = through_equality f a
 resume (frame.Addition f) a = through_addition f a
 resume (frame.Text f) a = through_text f a
+resume (frame.Method f) a = on_value (through_method f) a
+resume (frame.Class f) a = on_value (through_class f) a
 resume (frame.Test d) a = on_value (λ v. on_truth v (decides d v)) a
 resume (frame.Truth d v) a = on_bool (decides d v) a
 resume (frame.While env test body) a = next_turn (while_begins env test body) a
@@ -124,6 +138,7 @@ rest (f ∷ fs) a = bind (resume f a) (rest fs)
 -- What comes next over a stack, whose innermost frame is the last.
 abbrev pub meant : List Frame → Next → RuleTree
 meant fs (next.Enter env n) = Spend (Node env n) (rest (reverse fs))
+meant fs (next.Member env n) = Spend (Member env n) (rest (reverse fs))
 meant fs (next.Perform o) = Do (Perform o) (λ a. Give a) (rest (reverse fs))
 meant fs (next.Give a) = rest (reverse fs) a
 meant fs (next.Print vs) = bind (prints vs) (rest (reverse fs))
@@ -160,6 +175,10 @@ handling_in s texts handled = record s { texts = texts; handled = reverse handle
 -- the state with these cells and texts, and with these exceptions being handled
 abbrev pub situated : State → List Cell → List Program → List Handling → State
 situated s cells texts handled = record s { cells = cells; texts = texts; handled = reverse handled }
+
+-- the state with these cells and texts, and with these classes that class statements made, of which the newest is the last
+abbrev pub classed : State → List Cell → List Program → List MadeClass → State
+classed s cells texts classes = record s { cells = cells; texts = texts; classes = reverse classes }
 
 -- ---- operations
 

@@ -1,6 +1,8 @@
+use crate::class_frame::ClassFrame;
 use crate::handler_frame::HandlerFrame;
 use crate::list_frames::{AdditionFrame, EqualityFrame, SearchFrame, TextFrame};
 use crate::loop_frames::{DrainFrame, ForFrame};
+use crate::method_frame::MethodFrame;
 use crate::object_frames::{ComparisonFrame, OperationFrame, PrintingFrame};
 use crate::target_frame::TargetFrame;
 use object_operations::Env;
@@ -8,7 +10,14 @@ use py_ast::{Builtin, Comparison, Link};
 use rp_base::{BinaryOp, ExcKind, Text, UnaryOp, Value};
 use sqlite_items::Items;
 
-/// What is done by the truth of a value. Numbers and links that wait stand the last first.
+/// Two values that are compared.
+#[derive(Drop)]
+pub struct ValuePair {
+    pub left: Value,
+    pub right: Value,
+}
+
+/// What is done by the truth of a value. Numbers, links, pairs and values that wait stand the last first.
 #[derive(Drop)]
 pub enum Decision {
     /// The operands of an `or` from the next on.
@@ -48,6 +57,13 @@ pub enum Decision {
     },
     /// The truth itself is the value.
     Bool,
+    /// Whether all pairs from the next on are equal too.
+    Pairs { waiting: Items<ValuePair> },
+    /// Whether a value is found among the items from the next on.
+    Found {
+        wanted: Value,
+        waiting: Items<Value>,
+    },
 }
 
 /// What is made of values that are evaluated one after another.
@@ -162,6 +178,8 @@ pub enum Frame {
     Equality(EqualityFrame),
     Addition(AdditionFrame),
     Text(TextFrame),
+    Method(MethodFrame),
+    Class(ClassFrame),
     /// The truth of the value decides.
     Test(Decision),
     /// The truth of this value was asked of an object.

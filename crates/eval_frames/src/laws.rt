@@ -4,8 +4,8 @@ ghost use Rattle.object_operations.specs.declared.ending.Env.{Env};
 ghost use Rattle.object_operations.specs.declared.operation.Operation.{Operation};
 ghost use Rattle.side_trees.specs.Trees.{Return, bind};
 ghost use Rattle.language_rules.specs.Beginnings.{while_begins};
-ghost use Rattle.language_rules.specs.Codes.{Code, Give, Then};
-ghost use Rattle.language_rules.specs.Going.{RuleTree, operates};
+ghost use Rattle.language_rules.specs.Codes.{Code, Give, Step, Then};
+ghost use Rattle.language_rules.specs.Going.{RuleTree, and_then, carry, operates};
 ghost use Rattle.language_rules.specs.Rules.{expand};
 ghost use Rattle.language_rules.specs.States.{State};
 ghost use Rattle.eval_frames.specs.declared.frame.Frame.{Frame};
@@ -32,4 +32,10 @@ pub fn code_that_goes_on_waits()
 /// A piece of code that goes on with an operation's answer, and then another, may as well stand one behind the other.
 pub fn code_between_goes_on()
     ensures { (s : State) (o : Operation) (c f : Completion → Code) (k : Completion → RuleTree) → RunsAs s (bind (operates o (λ a. Then (c a) f) (λ a. Return a)) k) (bind (operates o c (λ a. Return a)) (λ r. bind (expand (f r)) k)) }
+{}
+
+/// A step that goes on with another may as well end, and the other go on behind it.
+#[tactic(auto, using(crate::proofs::Operating::step_behind))]
+pub fn a_step_behind_another_waits()
+    ensures { (s : State) (t : Step) (f : Completion → Step) (k : Completion → RuleTree) → RunsAs s (bind (carry (and_then t f)) k) (bind (carry t) (λ a. bind (carry (f a)) k)) }
 {}

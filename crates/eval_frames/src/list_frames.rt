@@ -19,6 +19,10 @@ pub enum SearchFrame {
     },
     /// The position, or None: the value is whether there is one.
     Found,
+    /// The position, which is the value.
+    Index,
+    /// The position of what is taken out of the list.
+    Remove { list: u32 },
 }
 
 /// A list and another one, own or not, that are compared.
@@ -71,7 +75,15 @@ pub enum AdditionFrame {
     },
 }
 
-/// What waits while the text of a list or a dict is made.
+/// A tuple whose text is under way: what is made of it, and the items behind the one that is asked, the last first.
+#[derive(Drop)]
+pub struct TupleLevel {
+    pub made: Text,
+    pub is_single: bool,
+    pub waiting: Items<Value>,
+}
+
+/// What waits while the text of a list, a dict or a tuple is made.
 #[derive(Drop)]
 pub enum TextFrame {
     /// The text of the item at a position, behind what is made.
@@ -87,6 +99,8 @@ pub enum TextFrame {
         position: u64,
         made: Text,
     },
+    /// The text of an item of a tuple that holds objects, within the tuples around it, the innermost last.
+    Tuple { levels: Items<TupleLevel> },
     /// The whole text.
     End,
 }

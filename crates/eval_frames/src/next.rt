@@ -15,6 +15,8 @@ use sqlite_items::Items;
 pub enum Next {
     /// The node of this number begins, which costs a unit.
     Enter(Env, u32),
+    /// The statement of this number in a class body begins, which costs a unit.
+    Member(Env, u32),
     /// An operation on an own cell, which costs a unit.
     Perform(Operation),
     /// What waits goes on with this end.

@@ -1,0 +1,8 @@
+//! Class statements (Python Language Reference, "Class definitions").
+#![tactic(auto)]
+
+mod members;
+mod statements;
+
+pub use members::begin_member;
+pub use statements::{begin_class, give_class};
