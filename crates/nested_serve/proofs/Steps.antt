@@ -14,7 +14,7 @@ use Rattle.language_rules.specs.Going.{RuleTree, on_value}
 use Rattle.language_rules.specs.Nodes.{node_rule, rule_of}
 use Rattle.language_rules.specs.Perform.{perform}
 use Rattle.language_rules.specs.Running.{runs}
-use Rattle.language_rules.specs.States.{Handling, State}
+use Rattle.language_rules.specs.States.{Handling, MadeClass, State}
 use Rattle.language_rules.specs.Statements.{statement_rule}
 use Rattle.language_rules.specs.Texts.{node_of}
 use Rattle.eval_frames.specs.declared.frame.Decision.{Decision}
@@ -22,7 +22,7 @@ use Rattle.eval_frames.specs.declared.frame.Frame.{Frame}
 use Rattle.eval_frames.specs.declared.next.Next.{Next}
 use Rattle.eval_frames.specs.declared.next.Next.TheVariants as next
 use Rattle.eval_texts.specs.Shown.{shown}
-use Rattle.eval_frames.specs.Meaning.{IsLight, Means, MeansIn, MeansOver, decides, handling_in, load, meant, resume, rest, situated}
+use Rattle.eval_frames.specs.Meaning.{IsLight, Means, MeansIn, MeansOver, classed, decides, handling_in, load, meant, resume, rest, situated}
 use Rattle.nested_serve.specs.declared.machine.Machine.{Machine}
 use Rattle.nested_serve.specs.Machines.{GoesOn, ahead, course}
 use Rattle.print_output.specs.Printed.{counted}
@@ -40,50 +40,59 @@ decided (Err e) now before texts d as_told v holds p h = tt
 -- ---- a machine's state, as its parts see it
 
 -- what a side has counted as printed
-abbrev pub counting : State → List Cell → List Program → List Handling → List ℕ → List ℕ → State
-counting fixed cells texts handled printing printed = record (situated fixed cells texts handled) { printed = length printed; printing = reverse printing }
+abbrev pub counting : State → List Cell → List Program → List Handling → List MadeClass → List ℕ → List ℕ → State
+counting fixed cells texts handled classes printing printed = record (situated fixed cells texts handled) { printed = length printed; printing = reverse printing; classes = reverse classes }
 
 -- a computation over the machine's state before, and what comes next over that after
-abbrev pub Went : List Frame → List Cell → List Program → List Handling → List ℕ → List ℕ → RuleTree → List Frame → List Cell → List Handling → List ℕ → List ℕ → Next → Type 0
-Went before cells texts handled printing printed t now cells' handled' printing' printed' n = (fixed : State) (units : ℕ)
-    → runs units (bind t (rest (reverse before))) (counting fixed cells texts handled printing printed) printed ≡ runs units (meant now n) (counting fixed cells' texts handled' printing' printed') printed'
+abbrev pub Went : List Frame → List Cell → List Program → List Handling → List MadeClass → List ℕ → List ℕ → RuleTree → List Frame → List Cell → List Handling → List ℕ → List ℕ → Next → Type 0
+Went before cells texts handled classes printing printed t now cells' handled' printing' printed' n = (fixed : State) (units : ℕ)
+    → runs units (bind t (rest (reverse before))) (counting fixed cells texts handled classes printing printed) printed ≡ runs units (meant now n) (counting fixed cells' texts handled' classes printing' printed') printed'
 
 -- the texts by another name
-pub lent : (r : Result Next NoMemory) (before now : List Frame) (cells cells' : List Cell) (texts as_lent : List Program) (handled : List Handling) (printing printed : List ℕ) (t : RuleTree) → as_lent ≡ texts
-    → IfOk r (λ n. (fixed : State) → MeansOver (stated fixed cells as_lent) (stated fixed cells' as_lent) now n t before) → IfOk r (λ n. Went before cells texts handled printing printed t now cells' handled printing printed n)
-lent (Ok n) before now cells cells' texts as_lent handled printing printed t p h = λ fixed units.
+pub lent : (r : Result Next NoMemory) (before now : List Frame) (cells cells' : List Cell) (texts as_lent : List Program) (handled : List Handling) (classes : List MadeClass) (printing printed : List ℕ) (t : RuleTree) → as_lent ≡ texts
+    → IfOk r (λ n. (fixed : State) → MeansOver (stated fixed cells as_lent) (stated fixed cells' as_lent) now n t before) → IfOk r (λ n. Went before cells texts handled classes printing printed t now cells' handled printing printed n)
+lent (Ok n) before now cells cells' texts as_lent handled classes printing printed t p h = λ fixed units.
     let k : (s : State) → MeansOver (stated s cells texts) (stated s cells' texts) now n t before = subst (λ (ts : List Program). (s : State) → MeansOver (stated s cells ts) (stated s cells' ts) now n t before) p h in
-    k (record fixed { printed = length printed; handled = reverse handled; printing = reverse printing }) units printed
-lent (Err e) before now cells cells' texts as_lent handled printing printed t p h = tt
+    k (record fixed { printed = length printed; handled = reverse handled; printing = reverse printing; classes = reverse classes }) units printed
+lent (Err e) before now cells cells' texts as_lent handled classes printing printed t p h = tt
 
 -- the texts and the exceptions by other names
-pub lent_both : (r : Result Next NoMemory) (before now : List Frame) (cells cells' : List Cell) (texts as_lent : List Program) (handled as_handled : List Handling) (printing printed : List ℕ) (t : RuleTree) → as_lent ≡ texts → as_handled ≡ handled
-    → IfOk r (λ n. (fixed : State) → MeansOver (situated fixed cells as_lent as_handled) (situated fixed cells' as_lent as_handled) now n t before) → IfOk r (λ n. Went before cells texts handled printing printed t now cells' handled printing printed n)
-lent_both (Ok n) before now cells cells' texts as_lent handled as_handled printing printed t p q h = λ fixed units.
+pub lent_both : (r : Result Next NoMemory) (before now : List Frame) (cells cells' : List Cell) (texts as_lent : List Program) (handled as_handled : List Handling) (classes : List MadeClass) (printing printed : List ℕ) (t : RuleTree) → as_lent ≡ texts → as_handled ≡ handled
+    → IfOk r (λ n. (fixed : State) → MeansOver (situated fixed cells as_lent as_handled) (situated fixed cells' as_lent as_handled) now n t before) → IfOk r (λ n. Went before cells texts handled classes printing printed t now cells' handled printing printed n)
+lent_both (Ok n) before now cells cells' texts as_lent handled as_handled classes printing printed t p q h = λ fixed units.
     let k : (s : State) → MeansOver (situated s cells texts as_handled) (situated s cells' texts as_handled) now n t before = subst (λ (ts : List Program). (s : State) → MeansOver (situated s cells ts as_handled) (situated s cells' ts as_handled) now n t before) p h in
     let l : (s : State) → MeansOver (situated s cells texts handled) (situated s cells' texts handled) now n t before = subst (λ (hs : List Handling). (s : State) → MeansOver (situated s cells texts hs) (situated s cells' texts hs) now n t before) q k in
-    l (record fixed { printed = length printed; printing = reverse printing }) units printed
-lent_both (Err e) before now cells cells' texts as_lent handled as_handled printing printed t p q h = tt
+    l (record fixed { printed = length printed; printing = reverse printing; classes = reverse classes }) units printed
+lent_both (Err e) before now cells cells' texts as_lent handled as_handled classes printing printed t p q h = tt
 
 -- what changes the exceptions that are being handled, with the texts by another name
-pub lent_handled : (r : Result Next NoMemory) (before now : List Frame) (cells : List Cell) (texts as_lent : List Program) (handled handled' : List Handling) (printing printed : List ℕ) (t : RuleTree) → as_lent ≡ texts
-    → IfOk r (λ n. (fixed : State) → MeansOver (handling_in fixed as_lent handled) (handling_in fixed as_lent handled') now n t before) → IfOk r (λ n. Went before cells texts handled printing printed t now cells handled' printing printed n)
-lent_handled (Ok n) before now cells texts as_lent handled handled' printing printed t p h = λ fixed units.
+pub lent_handled : (r : Result Next NoMemory) (before now : List Frame) (cells : List Cell) (texts as_lent : List Program) (handled handled' : List Handling) (classes : List MadeClass) (printing printed : List ℕ) (t : RuleTree) → as_lent ≡ texts
+    → IfOk r (λ n. (fixed : State) → MeansOver (handling_in fixed as_lent handled) (handling_in fixed as_lent handled') now n t before) → IfOk r (λ n. Went before cells texts handled classes printing printed t now cells handled' printing printed n)
+lent_handled (Ok n) before now cells texts as_lent handled handled' classes printing printed t p h = λ fixed units.
     let k : (s : State) → MeansOver (handling_in s texts handled) (handling_in s texts handled') now n t before = subst (λ (ts : List Program). (s : State) → MeansOver (handling_in s ts handled) (handling_in s ts handled') now n t before) p h in
-    k (record fixed { cells = cells; printed = length printed; printing = reverse printing }) units printed
-lent_handled (Err e) before now cells texts as_lent handled handled' printing printed t p h = tt
+    k (record fixed { cells = cells; printed = length printed; printing = reverse printing; classes = reverse classes }) units printed
+lent_handled (Err e) before now cells texts as_lent handled handled' classes printing printed t p h = tt
 
 -- what changes the lists and dicts whose texts are under way
-pub lent_printing : (r : Result Next NoMemory) (before now : List Frame) (cells : List Cell) (texts : List Program) (handled : List Handling) (printing printing' printed : List ℕ) (t : RuleTree)
-    → IfOk r (λ n. (fixed : State) (texts : List Program) → MeansOver (shown fixed cells texts printing) (shown fixed cells texts printing') now n t before) → IfOk r (λ n. Went before cells texts handled printing printed t now cells handled printing' printed n)
-lent_printing (Ok n) before now cells texts handled printing printing' printed t h = λ fixed units. h (record fixed { printed = length printed; handled = reverse handled }) texts units printed
-lent_printing (Err e) before now cells texts handled printing printing' printed t h = tt
+pub lent_printing : (r : Result Next NoMemory) (before now : List Frame) (cells : List Cell) (texts : List Program) (handled : List Handling) (classes : List MadeClass) (printing printing' printed : List ℕ) (t : RuleTree)
+    → IfOk r (λ n. (fixed : State) (texts : List Program) → MeansOver (shown fixed cells texts printing) (shown fixed cells texts printing') now n t before) → IfOk r (λ n. Went before cells texts handled classes printing printed t now cells handled printing' printed n)
+lent_printing (Ok n) before now cells texts handled classes printing printing' printed t h = λ fixed units. h (record fixed { printed = length printed; handled = reverse handled; classes = reverse classes }) texts units printed
+lent_printing (Err e) before now cells texts handled classes printing printing' printed t h = tt
+
+-- a class statement, or a statement of a class body, with the texts by another name
+pub lent_classes : (r : Result Next NoMemory) (before now : List Frame) (cells cells' : List Cell) (texts as_lent : List Program) (handled : List Handling) (made made' : List MadeClass) (printing printed : List ℕ) (t : RuleTree) → as_lent ≡ texts
+    → IfOk r (λ n. (fixed : State) → MeansOver (classed fixed cells as_lent made) (classed fixed cells' as_lent made') now n t before)
+    → IfOk r (λ n. (fixed : State) (units : ℕ) → runs units (bind t (rest (reverse before))) (counting fixed cells texts handled made printing printed) printed ≡ runs units (meant now n) (counting fixed cells' texts handled made' printing printed) printed)
+lent_classes (Ok n) before now cells cells' texts as_lent handled made made' printing printed t p h = λ fixed units.
+    let k : (s : State) → MeansOver (classed s cells texts made) (classed s cells' texts made') now n t before = subst (λ (ts : List Program). (s : State) → MeansOver (classed s cells ts made) (classed s cells' ts made') now n t before) p h in
+    k (record fixed { printed = length printed; handled = reverse handled; printing = reverse printing }) units printed
+lent_classes (Err e) before now cells cells' texts as_lent handled made made' printing printed t p h = tt
 
 -- an operation by what it is
-pub at_operation : (r : Result Next NoMemory) (before now : List Frame) (cells cells' : List Cell) (texts : List Program) (handled handled' : List Handling) (printing printing' printed printed' : List ℕ) (o as_told : Operation) → o ≡ as_told
-    → IfOk r (λ n. Went before cells texts handled printing printed (perform as_told) now cells' handled' printing' printed' n) → IfOk r (λ n. Went before cells texts handled printing printed (perform o) now cells' handled' printing' printed' n)
-at_operation r before now cells cells' texts handled handled' printing printing' printed printed' o as_told p h =
-    subst (λ (x : Operation). IfOk r (λ n. Went before cells texts handled printing printed (perform x) now cells' handled' printing' printed' n)) (sym p) h
+pub at_operation : (r : Result Next NoMemory) (before now : List Frame) (cells cells' : List Cell) (texts : List Program) (handled handled' : List Handling) (classes : List MadeClass) (printing printing' printed printed' : List ℕ) (o as_told : Operation) → o ≡ as_told
+    → IfOk r (λ n. Went before cells texts handled classes printing printed (perform as_told) now cells' handled' printing' printed' n) → IfOk r (λ n. Went before cells texts handled classes printing printed (perform o) now cells' handled' printing' printed' n)
+at_operation r before now cells cells' texts handled handled' classes printing printing' printed printed' o as_told p h =
+    subst (λ (x : Operation). IfOk r (λ n. Went before cells texts handled classes printing printed (perform x) now cells' handled' printing' printed' n)) (sym p) h
 
 -- an operation behind its unit
 pub performs : (m m' : Machine) (o : Operation) (n : Next) (units left : ℕ) → units ≡ suc left → GoesOn m (perform o) m' n → IsLight m'.stack.items n m.stack.items
@@ -207,11 +216,11 @@ at_node (Err e) now before cells cells' texts handled env number o p h = tt
 -- ---- printing
 
 -- what prints, in the machine's own words
-pub prints_over : (r : Result Next NoMemory) (before now : List Frame) (cells : List Cell) (texts : List Program) (handled : List Handling) (printing old new : List ℕ) (t : RuleTree)
+pub prints_over : (r : Result Next NoMemory) (before now : List Frame) (cells : List Cell) (texts : List Program) (handled : List Handling) (classes : List MadeClass) (printing old new : List ℕ) (t : RuleTree)
     → IfOk r (λ n. (fixed : State) (units : ℕ) → runs units (bind t (rest (reverse before))) (counted fixed old) old ≡ runs units (meant now n) (counted fixed new) new)
-    → IfOk r (λ n. Went before cells texts handled printing old t now cells handled printing new n)
-prints_over (Ok n) before now cells texts handled printing old new t h = λ fixed units. h (record (situated fixed cells texts handled) { printing = reverse printing }) units
-prints_over (Err e) before now cells texts handled printing old new t h = tt
+    → IfOk r (λ n. Went before cells texts handled classes printing old t now cells handled printing new n)
+prints_over (Ok n) before now cells texts handled classes printing old new t h = λ fixed units. h (record (situated fixed cells texts handled) { printing = reverse printing; classes = reverse classes }) units
+prints_over (Err e) before now cells texts handled classes printing old new t h = tt
 
 -- what is printed is less to be done
 pub printed_less : (before now : List Frame) (n : Next) (units : ℕ) → load now n ≤ 3 * length before + 10 → (20 * units + load now n) + 1 ≤ 20 * units + (3 * length before + 11)

@@ -28,7 +28,7 @@ printed_by m = string_bytes m.printed
 
 -- the state of the side, but for what the machine does not keep
 abbrev pub state_in : State → Machine → State
-state_in fixed m = record (situated fixed m.store.cells m.texts.items m.handled) { printed = length (printed_by m); printing = reverse m.printing }
+state_in fixed m = record (situated fixed m.store.cells m.texts.items m.handled) { printed = length (printed_by m); printing = reverse m.printing; classes = reverse m.classes }
 
 -- the run of a computation over the machine's cells, texts and output
 abbrev pub runs_over : State → Machine → RuleTree → ℕ → ScriptEnd
@@ -88,11 +88,12 @@ AreRoot None root = Unit {0}
 abbrev pub first_cells_of : List (List ℕ) → List Cell
 first_cells_of names = cell.Namespace [] (with_names names []) ∷ cell.Root ∷ []
 
--- the first cells, this one text, nothing that waits or is being handled, and nothing printed
+-- the first cells, this one text, nothing that waits or is being handled, no class, and nothing printed
 pub record IsFirst (program : Program) (m : Machine) : Type 0 where
   pub cells : m.store.cells ≡ first_cells_of program.handler_names
   pub texts : m.texts.items ≡ program ∷ []
   pub idle : m.stack.items ≡ []
   pub handled : m.handled ≡ []
   pub printing : m.printing ≡ []
+  pub classes : m.classes ≡ []
   pub printed : printed_by m ≡ []

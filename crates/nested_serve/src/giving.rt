@@ -1,6 +1,7 @@
 ghost use Rattle.std.specs.Prelude.{IfOk, List};
 ghost use Rattle.py_store.specs.declared.cell.Cell.{Cell};
 ghost use Rattle.eval_frames.specs.Meaning.{IsLight, MeansIn, MeansOver, decides, resume, through_expression, through_statement};
+ghost use Rattle.eval_frames.specs.MethodFrames.{through_method};
 ghost use Rattle.eval_frames.specs.TargetFrames.{through_target};
 ghost use Rattle.language_rules.specs.AtOnce.{stated};
 ghost use Rattle.language_rules.specs.States.{State};
@@ -9,12 +10,16 @@ ghost use Rattle.language_rules.specs.Going.{on_value};
 ghost use Rattle.nested_serve.specs.Machines.{IsValueOf};
 
 use eval_calls::{empty_call, end_call};
+use eval_comparing::{decide_found, decide_pairs};
 use eval_draining::give_drain;
 use eval_exprs::{
     ask_truth, decide_and, decide_bool, decide_conditional, decide_link, decide_not, decide_or,
     give_comparison, give_expression, give_operation, told_truth,
 };
-use eval_frames::{Decision, ExpressionFrame, Frame, Next, StatementFrame, TargetFrame};
+use eval_frames::{
+    Decision, ExpressionFrame, Frame, MethodFrame, Next, StatementFrame, TargetFrame,
+};
+use eval_instances::give_method;
 use eval_loops::give_for;
 use eval_searching::{give_addition, give_equality, give_search};
 use eval_stmts::{decide_if, decide_while, end_turn, give_statement};
@@ -50,7 +55,10 @@ pub fn give(
         }
         Frame::Operation(frame) => give_operation(alloc, frame, completion),
         Frame::Comparison(frame) => give_comparison(alloc, stack, frame, completion),
-        Frame::Handler(_) | Frame::Printing(_) | Frame::Text(_) => Err(NoMemory),
+        Frame::Handler(_) | Frame::Printing(_) | Frame::Text(_) | Frame::Class(_) => {
+            Err(NoMemory)
+        }
+        Frame::Method(frame) => give_to_method(alloc, stack, store, frame, completion),
         Frame::Target(frame) => give_to_target(alloc, stack, store, texts, frame, completion),
         Frame::For(frame) => give_for(alloc, stack, store, texts, frame, completion),
         Frame::Drain(frame) => give_drain(alloc, stack, store, texts, frame, completion),
@@ -77,6 +85,22 @@ fn give_to_expression(
 {
     match value_of(completion) {
         Ok(value) => give_expression(alloc, stack, store, frame, value),
+        Err(end) => Ok(Next::Give(end)),
+    }
+}
+
+fn give_to_method(
+    alloc: Global,
+    stack: &mut Vec<Frame>,
+    store: &Store,
+    frame: MethodFrame,
+    completion: Completion,
+) -> Result<Next, NoMemory>
+    ensures means { IfOk result (λ next. (fixed : State) (texts : List Program) → MeansIn (stated fixed store.now.cells texts) stack.new.items next (on_value (through_method frame) completion) stack.old.items) }
+    ensures light { IfOk result (λ next. IsLight stack.new.items next stack.old.items) }
+{
+    match value_of(completion) {
+        Ok(value) => give_method(alloc, stack, store, frame, value),
         Err(end) => Ok(Next::Give(end)),
     }
 }
@@ -150,7 +174,7 @@ fn give_to_truth(
 }
 
 /// The value, or an end that passes what waits for a value.
-fn value_of(completion: Completion) -> Result<Value, Completion>
+pub(crate) fn value_of(completion: Completion) -> Result<Value, Completion>
     ensures { IsValueOf completion result }
 {
     match completion {
@@ -199,6 +223,10 @@ fn decide(
         Decision::Or { env, next, waiting } => decide_or(stack, env, next, waiting, value, holds),
         Decision::And { env, next, waiting } => decide_and(stack, env, next, waiting, value, holds),
         Decision::Not => Ok(decide_not(holds)),
+        Decision::Pairs { waiting } => decide_pairs(alloc, stack, waiting, holds),
+        Decision::Found { wanted, waiting } => {
+            decide_found(alloc, stack, wanted, waiting, holds)
+        }
         Decision::Bool => Ok(decide_bool(holds)),
         Decision::Conditional {
             env,

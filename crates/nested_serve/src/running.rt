@@ -1,21 +1,25 @@
 ghost use Rattle.std.specs.Prelude.{◌≤◌, ℕ, IfOk};
 ghost use Rattle.eval_frames.specs.declared.next.Next.TheVariants as next;
+ghost use Rattle.eval_frames.specs.ClassFrames.{through_class};
 ghost use Rattle.eval_frames.specs.HandlerFrames.{through_handler};
 ghost use Rattle.eval_frames.specs.Meaning.{IsLight, resume};
 ghost use Rattle.eval_frames.specs.ListFrames.{through_text};
 ghost use Rattle.eval_frames.specs.ObjectFrames.{through_printing};
-ghost use Rattle.language_rules.specs.Nodes.{node_rule};
+ghost use Rattle.language_rules.specs.Going.{on_value};
+ghost use Rattle.language_rules.specs.Nodes.{member_node_rule, node_rule};
 ghost use Rattle.nested_serve.specs.Machines.{Advances, GoesOn, Halts};
 
 use crate::entering::enter;
-use crate::giving::give;
+use crate::giving::{give, value_of};
 use crate::machine::{Halt, Machine};
 use crate::performing::{advance_making, advance_performing};
-use eval_frames::{Frame, HandlerFrame, Next, PrintingFrame, TextFrame};
+use eval_classes::{begin_class, begin_member, give_class};
+use eval_frames::{ClassFrame, Frame, HandlerFrame, Next, PrintingFrame, TextFrame, node_at};
 use eval_handlers::give_handler;
 use eval_texts::give_text;
 use object_operations::{Completion, Env};
 use print_output::{give_printing, print};
+use py_ast::{Node, Statement};
 use rp_base::{NoMemory, Plain, Value};
 use sqlite_items::Items;
 use std::alloc::Global;
@@ -39,6 +43,7 @@ fn advance(
 {
     match next {
         Next::Enter(env, number) => advance_into(alloc, machine, env, number, fuel),
+        Next::Member(env, number) => advance_member(machine, env, number, fuel),
         Next::Give(completion) => advance_with(alloc, machine, completion),
         Next::Print(values) => advance_printing(alloc, machine, values),
         Next::Leave(beyond) => Ok(Progress::Halted(Halt::Beyond(beyond))),
@@ -64,6 +69,25 @@ fn advance_into(
         Some(left) => {
             *fuel = left;
             Ok(Progress::On(begin_node(alloc, machine, env, number)?))
+        }
+        None => Ok(Progress::Halted(Halt::OutOfFuel)),
+    }
+}
+
+/// A statement of a class body begins, where a unit is left.
+fn advance_member(
+    machine: &mut Machine,
+    env: Env,
+    number: u32,
+    fuel: &mut u64,
+) -> Result<Progress, NoMemory>
+    ensures run { IfOk result (λ advance. Advances machine.old (next.Member env number) fuel.old advance machine.new fuel.new) }
+    ensures spent { fuel.new ≤ fuel.old }
+{
+    match fuel.checked_sub(1) {
+        Some(left) => {
+            *fuel = left;
+            Ok(Progress::On(begin_member_of(machine, env, number)?))
         }
         None => Ok(Progress::Halted(Halt::OutOfFuel)),
     }
@@ -106,7 +130,40 @@ fn advance_printing(
     Ok(Progress::On(next))
 }
 
+fn begin_member_of(machine: &mut Machine, env: Env, number: u32) -> Result<Next, NoMemory>
+    ensures means { IfOk result (λ next. GoesOn machine.old (member_node_rule env number) machine.new next) }
+    ensures light { IfOk result (λ next. IsLight machine.new.stack.items next machine.old.stack.items) }
+{
+    begin_member(&mut machine.stack, &machine.texts, env, number)
+}
+
 fn begin_node(alloc: Global, machine: &mut Machine, env: Env, number: u32) -> Result<Next, NoMemory>
+    ensures means { IfOk result (λ next. GoesOn machine.old (node_rule env number) machine.new next) }
+    ensures light { IfOk result (λ next. IsLight machine.new.stack.items next machine.old.stack.items) }
+{
+    match node_at(&machine.texts, env, number) {
+        Some(Node::Statement(Statement::Class { name, base, body })) => begin_class(
+            alloc,
+            &mut machine.stack,
+            &mut machine.store,
+            &machine.texts,
+            &mut machine.classes,
+            env,
+            name.text.as_str(),
+            base,
+            *body,
+        ),
+        _ => begin_plain_node(alloc, machine, env, number),
+    }
+}
+
+/// Any node but a class statement, which looks at no class that was made.
+fn begin_plain_node(
+    alloc: Global,
+    machine: &mut Machine,
+    env: Env,
+    number: u32,
+) -> Result<Next, NoMemory>
     ensures means { IfOk result (λ next. GoesOn machine.old (node_rule env number) machine.new next) }
     ensures light { IfOk result (λ next. IsLight machine.new.stack.items next machine.old.stack.items) }
 {
@@ -134,6 +191,7 @@ fn give_frame(
         Frame::Handler(frame) => give_to_handler(alloc, machine, frame, completion),
         Frame::Printing(frame) => give_to_printing(alloc, machine, frame, completion),
         Frame::Text(frame) => give_to_text(alloc, machine, frame, completion),
+        Frame::Class(frame) => give_to_class(alloc, machine, frame, completion),
         frame => give(
             alloc,
             &mut machine.stack,
@@ -199,6 +257,29 @@ fn give_to_text(
         frame,
         completion,
     )
+}
+
+fn give_to_class(
+    alloc: Global,
+    machine: &mut Machine,
+    frame: ClassFrame,
+    completion: Completion,
+) -> Result<Next, NoMemory>
+    ensures means { IfOk result (λ next. GoesOn machine.old (on_value (through_class frame) completion) machine.new next) }
+    ensures light { IfOk result (λ next. IsLight machine.new.stack.items next machine.old.stack.items) }
+{
+    match value_of(completion) {
+        Ok(value) => give_class(
+            alloc,
+            &mut machine.stack,
+            &mut machine.store,
+            &machine.texts,
+            &mut machine.classes,
+            frame,
+            value,
+        ),
+        Err(end) => Ok(Next::Give(end)),
+    }
 }
 
 /// Goes on until the side's own run ends.

@@ -62,6 +62,7 @@ fn first_machine(alloc: Global, program: Program) -> Result<Machine, NoMemory>
         stack: Vec::new(alloc),
         handled: Items::new(alloc),
         printing: Items::new(alloc),
+        classes: Items::new(alloc),
         printed: String::new(alloc),
     })
 }

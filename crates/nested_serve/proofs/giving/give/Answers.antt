@@ -28,3 +28,6 @@ returns-in-Equality-clause-means c = at_frame_cells c.give_equality.result c.giv
 
 pub returns-in-Addition-clause-means : goal.returns-in-Addition-clause-means
 returns-in-Addition-clause-means c = at_frame_cells c.give_addition.result c.give_addition.new.stack.items c.args.stack.now.items c.args.store.now.cells c.args.texts.now c.args.frame (frame.Addition c.in-Addition.frame) c.args.completion c.in-Addition.is c.give_addition.ensures.means
+
+pub returns-in-Method-clause-means : goal.returns-in-Method-clause-means
+returns-in-Method-clause-means c = at_frame_cells c.give_to_method.result c.give_to_method.new.stack.items c.args.stack.now.items c.args.store.now.cells c.args.texts.now c.args.frame (frame.Method c.in-Method.frame) c.args.completion c.in-Method.is c.give_to_method.ensures.means
