@@ -163,6 +163,7 @@ pub fn give_search(
             alloc, stack, store, dict, shape, position, wanted, completion,
         ),
         SearchFrame::Found => Ok(give_whether(completion)),
+        SearchFrame::Index | SearchFrame::Remove { .. } => Err(NoMemory),
     }
 }
 

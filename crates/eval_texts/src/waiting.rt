@@ -155,6 +155,7 @@ pub fn give_text(
             position,
             made,
         } => give_dict(alloc, stack, store, dict, shape, position, made, completion),
+        TextFrame::Tuple { .. } => Err(NoMemory),
         TextFrame::End => {
             printing.pop();
             Ok(Next::Give(completion))
