@@ -5,9 +5,12 @@ use Rattle.rp_base.specs.declared.value.Value.{Value}
 use Rattle.py_ast.specs.declared.node.Node.{Node}
 use Rattle.py_ast.specs.declared.program.Program.{Program}
 use Rattle.py_ast.specs.declared.statement.Statement.{Statement}
+use Rattle.py_store.specs.Cells.{Cells}
 use Rattle.py_store.specs.declared.cell.Cell.{Cell}
 use Rattle.object_operations.specs.declared.operation.Operation.{Operation}
 use Rattle.side_trees.specs.Trees.{Return, bind}
+use Rattle.eval_at_once.specs.Evaluated.{ComesTo}
+use Rattle.language_rules.specs.Answers.{evaluated}
 use Rattle.language_rules.specs.AtOnce.{stated}
 use Rattle.language_rules.specs.Codes.{Completion, Env, Gives}
 use Rattle.language_rules.specs.Going.{RuleTree, on_value}
@@ -24,7 +27,7 @@ use Rattle.eval_frames.specs.declared.next.Next.TheVariants as next
 use Rattle.eval_texts.specs.Shown.{shown}
 use Rattle.eval_frames.specs.Meaning.{IsLight, Means, MeansIn, MeansOver, classed, decides, handling_in, load, meant, resume, rest, situated}
 use Rattle.nested_serve.specs.declared.machine.Machine.{Machine}
-use Rattle.nested_serve.specs.Machines.{GoesOn, ahead, course}
+use Rattle.nested_serve.specs.Machines.{GoesOn, ahead, course, printed_by}
 use Rattle.print_output.specs.Printed.{counted}
 
 -- ---- decisions
@@ -225,3 +228,15 @@ prints_over (Err e) before now cells texts handled classes printing old new t h 
 -- what is printed is less to be done
 pub printed_less : (before now : List Frame) (n : Next) (units : ℕ) → load now n ≤ 3 * length before + 10 → (20 * units + load now n) + 1 ≤ 20 * units + (3 * length before + 11)
 printed_less before now n units h = omega (arith, h)
+
+-- ---- what is carried out at once
+
+-- a node that came to an end at once, over what waits
+pub carried_out : (m : Machine) (store : Cells) (env : Env) (number units left : ℕ) (a : Completion) (as_lent : List Program) → as_lent ≡ m.texts.items
+    → ((fixed : State) → ComesTo (evaluated env number) (stated fixed m.store.cells as_lent) units a (stated fixed store.cells as_lent) left) → left + 1 ≤ units
+    → ((fixed : State) → course fixed m (next.Enter env number) units ≡ course fixed (record m { store = store }) (next.Give a) left) × (ahead (record m { store = store }) (next.Give a) left + 1 ≤ ahead m (next.Enter env number) units)
+carried_out m store env number units left a as_lent p comes less =
+    ((λ fixed.
+        let k : (s : State) → ComesTo (evaluated env number) (stated s m.store.cells m.texts.items) units a (stated s store.cells m.texts.items) left = subst (λ (ts : List Program). (s : State) → ComesTo (evaluated env number) (stated s m.store.cells ts) units a (stated s store.cells ts) left) p comes in
+        k (record fixed { printed = length (printed_by m); handled = reverse m.handled; printing = reverse m.printing; classes = reverse m.classes }) (rest (reverse m.stack.items)) (printed_by m)),
+     omega (arith, less))

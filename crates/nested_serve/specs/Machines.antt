@@ -8,13 +8,14 @@ use Rattle.py_ast.specs.declared.statement.Statement.TheVariants as statement
 use Rattle.py_store.specs.declared.cell.Cell.{Cell}
 use Rattle.py_store.specs.declared.cell.Cell.TheVariants as cell
 use Rattle.side_trees.specs.Trees.{Return, Done, Stopped, NoFuel, bind}
-use Rattle.language_rules.specs.Codes.{Completion, Gives}
+use Rattle.language_rules.specs.Codes.{Completion, Env, Gives}
 use Rattle.language_rules.specs.Going.{RuleTree, on_value}
 use Rattle.language_rules.specs.Running.{ScriptEnd, runs}
 use Rattle.language_rules.specs.Programs.{with_names}
 use Rattle.language_rules.specs.Starting.{Reader, first_state, text_of}
 use Rattle.language_rules.specs.States.{State}
 use Rattle.eval_frames.specs.declared.next.Next.{Next}
+use Rattle.eval_frames.specs.declared.next.Next.TheVariants as next
 use Rattle.eval_frames.specs.Meaning.{load, meant, rest, situated}
 use Rattle.nested_serve.specs.declared.machine.Halt.{Halt}
 use Rattle.nested_serve.specs.declared.machine.Halt.TheVariants as halt
@@ -68,6 +69,11 @@ abbrev pub Advances : Machine → Next → ℕ → Progress → Machine → ℕ 
 Advances before n units (progress.On further) now left =
     ((fixed : State) → course fixed before n units ≡ course fixed now further left) × (ahead now further left + 1 ≤ ahead before n units)
 Advances before n units (progress.Halted h) now left = Halts before n units h now left
+
+-- the node of this number was carried out; or nothing was done
+abbrev pub IsCarriedOut : Machine → Env → ℕ → ℕ → Option Next → Machine → ℕ → Type 0
+IsCarriedOut before env number units (Some n) now left = Advances before (next.Enter env number) units (progress.On n) now left × (left ≤ units)
+IsCarriedOut before env number units None now left = (now ≡ before) × (left ≡ units)
 
 -- ---- the beginning
 

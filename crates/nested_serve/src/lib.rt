@@ -2,6 +2,7 @@
 #![tactic(auto)]
 
 mod alone;
+mod at_once;
 mod entering;
 mod giving;
 mod laws;

@@ -10,6 +10,7 @@ ghost use Rattle.language_rules.specs.Nodes.{member_node_rule, node_rule};
 ghost use Rattle.nested_serve.specs.Machines.{Advances, GoesOn, Halts};
 
 use crate::entering::enter;
+use crate::at_once::carry_out;
 use crate::giving::{give, value_of};
 use crate::machine::{Halt, Machine};
 use crate::performing::{advance_making, advance_performing};
@@ -54,8 +55,25 @@ fn advance(
     }
 }
 
-/// A node begins, where a unit is left.
+/// A node begins, where a unit is left. What needs no frame is carried out in this step.
 fn advance_into(
+    alloc: Global,
+    machine: &mut Machine,
+    env: Env,
+    number: u32,
+    fuel: &mut u64,
+) -> Result<Progress, NoMemory>
+    ensures run { IfOk result (λ advance. Advances machine.old (next.Enter env number) fuel.old advance machine.new fuel.new) }
+    ensures spent { fuel.new ≤ fuel.old }
+{
+    match carry_out(alloc, machine, env, number, fuel) {
+        Some(next) => Ok(Progress::On(next)),
+        None => advance_by_frames(alloc, machine, env, number, fuel),
+    }
+}
+
+/// A node begins, where a unit is left, and its parts by themselves.
+fn advance_by_frames(
     alloc: Global,
     machine: &mut Machine,
     env: Env,
@@ -84,13 +102,11 @@ fn advance_member(
     ensures run { IfOk result (λ advance. Advances machine.old (next.Member env number) fuel.old advance machine.new fuel.new) }
     ensures spent { fuel.new ≤ fuel.old }
 {
-    match fuel.checked_sub(1) {
-        Some(left) => {
-            *fuel = left;
-            Ok(Progress::On(begin_member_of(machine, env, number)?))
-        }
-        None => Ok(Progress::Halted(Halt::OutOfFuel)),
-    }
+    let Some(remaining) = fuel.checked_sub(1) else {
+        return Ok(Progress::Halted(Halt::OutOfFuel));
+    };
+    *fuel = remaining;
+    Ok(Progress::On(begin_member_of(machine, env, number)?))
 }
 
 /// The name of a handler, where a unit is left.
