@@ -9,12 +9,11 @@ use Rattle.rpyc_cmd.specs.declared.decide.Stop.TheVariants as stop
 use Rattle.rpyc_cmd.specs.declared.status.Status.{Status}
 use Rattle.rpyc_cmd.specs.declared.status.Status.TheVariants as status
 use Rattle.py_ast.specs.declared.program.Program.{Program}
-use Rattle.built_forms.specs.BuiltForms.{AllBuilt, IsFirstUnbuilt}
 use Rattle.nested_serve.specs.declared.alone.AloneEnd.{AloneEnd}
 use Rattle.nested_serve.specs.declared.alone.AloneEnd.TheVariants as alone
 use Rattle.rpyc_cmd.specs.Statuses.{status_of}
 use Rattle.rpyc_cmd.specs.Deciding.{IfRefused, IfNoMemory, RefusesScript, Finished, after_fault}
-use Rattle.rpyc_cmd.specs.Outcome.{Held, Holds, Unbegun, IsScript, IsScriptOf, IsTextRefusal, IsFirstOtherForm, IsReportedRun, RunsAlone, IsAloneRefusal, AloneGives, IsRefusal, IsDecided, Outside, Scripts, AreAccepted, IsFileRefusal, IsDumped, DumpGives, PairGives, Gives, AskedRunsOut, Decides, RunsOut, Ends}
+use Rattle.rpyc_cmd.specs.Outcome.{Held, Holds, Unbegun, IsScriptOf, IsNoScript, IsReportedRun, RunsAlone, IsAloneRefusal, AloneGives, IsRefusal, IsDecided, Outside, Scripts, AreAccepted, IsFileRefusal, IsDumped, DumpGives, PairGives, Gives, AskedRunsOut, Decides, RunsOut, Ends}
 use Rattle.rpyc_cmd.specs.Report.{script_line}
 use Rattle.rpyc_cmd.specs.Words.{Asked, PairOf, DumpOf, RunOf, Spells}
 
@@ -125,21 +124,12 @@ unfolding IsReportedRun
 end_of decided program fuel text h = (h.0.end, h.2)
 
 end_of_alone : (decided : Status) (file : List ℕ) (fuel : ℕ) (held : Held) (text : List ℕ) → RunsAlone file fuel held decided text → (e : AloneEnd) × (decided ≡ status_of e)
-end_of_alone decided file fuel held text h = end_of decided h.1 fuel text h.5
+end_of_alone decided file fuel held text h = end_of decided h.1 fuel text h.4
 
 -- a file that was read, and its script that was run alone
 pub runs_alone : (file : List ℕ) (fuel : ℕ) (held : Held) (bytes read : List ℕ) (program : Program) (decided : Status) (text : List ℕ) → Holds held file bytes → read ≡ bytes
-    → IsScriptOf read program → AllBuilt program → IsReportedRun decided program fuel text → RunsAlone file fuel held decided text
-runs_alone file fuel held bytes read program decided text holds e script built run = (read, program, subst (Holds held file) (sym e) holds, script, built, run)
-
--- the first line of another form, of the one program
-pub other_form : (text : List ℕ) (program : Program) (line : ℕ) → IsScriptOf text program → IsFirstUnbuilt program line → IsFirstOtherForm text line
-unfolding IsFirstOtherForm
-other_form text program line script first = (program, script, first)
-
-pub is_script : (text : List ℕ) (program : Program) → IsScriptOf text program → IsScript text
-unfolding IsScript
-is_script text program script = (program, script)
+    → IsScriptOf read program → IsReportedRun decided program fuel text → RunsAlone file fuel held decided text
+runs_alone file fuel held bytes read program decided text holds e script run = (read, program, subst (Holds held file) (sym e) holds, script, run)
 
 -- a refusal of the file, or of the text that was read of it, is one of the run
 pub alone_file_refused : (stopped : Stop) (file : List ℕ) (held : Held) (old_faults new_faults : ℕ)
@@ -148,7 +138,7 @@ alone_file_refused stopped file held old_faults new_faults =
     if_refused stopped (λ decided text. (decided ≡ status.File) × IsFileRefusal held file old_faults new_faults text) (IsAloneRefusal file held old_faults new_faults) (λ decided text h. inl h)
 
 abbrev RefusesText : List ℕ → List ℕ → List ℕ → ℕ → Rule → Type 0
-RefusesText file bytes = λ refused line rule. (refused ≡ file) × IsTextRefusal IsFirstOtherForm bytes line rule
+RefusesText file bytes = λ refused line rule. (refused ≡ file) × IsNoScript bytes line rule
 
 refuses_alone : (file : List ℕ) (held : Held) (bytes : List ℕ) (old_faults new_faults : ℕ) → Holds held file bytes → (decided : Status) (text : List ℕ)
     → RefusesScript (RefusesText file bytes) decided text → IsAloneRefusal file held old_faults new_faults decided text

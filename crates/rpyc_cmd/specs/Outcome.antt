@@ -13,7 +13,6 @@ use Rattle.pair_run.specs.Running.{Wires, wires, IsUnrun, IsWholeRun, IsPartRun,
 use Rattle.pair_run.specs.Scripts.{AsksFor, Binds, IsFirstOtherQuestion, IsFirstOtherBinding, IsFirstUnbound, number_of}
 use Rattle.pair_run.specs.Talk.{printed, units_of}
 use Rattle.message_core.specs.declared.faults.PeerFault.{PeerFault}
-use Rattle.built_forms.specs.BuiltForms.{AllBuilt, IsFirstUnbuilt}
 use Rattle.nested_serve.specs.Alone.{IsRunAlone}
 use Rattle.nested_serve.specs.declared.alone.AloneRun.{AloneRun}
 use Rattle.report_text.specs.Dumping.{dump_text, dump_fault}
@@ -150,24 +149,20 @@ abbrev pub DumpGives : Status → List ℕ → Outside → Outside → List ℕ 
 DumpGives status.File file old new text = IsFileRefusal old.held file old.file_faults new.file_faults text × Unbegun old new
 DumpGives decided file old new text = IsDumped decided old.held file text × Unbegun old new
 
--- the least line of a script's text that has a form that is not built
-unfoldable pub IsFirstOtherForm : List ℕ → ℕ → Type 0
-IsFirstOtherForm text line = (program : Program) × IsScriptOf text program × IsFirstUnbuilt program line
-
 -- a status and a report that are those of a run of this program within so many units
 unfoldable pub IsReportedRun : Status → Program → ℕ → List ℕ → Type 0
 IsReportedRun decided program fuel text =
     (run : AloneRun) × IsRunAlone program fuel run × (decided ≡ status_of run.end) × (text ≡ run_text run.printed run.end run.units)
 
--- A file was read, its text is a script of which every form is built, and that was run alone.
+-- A file was read, its text is a script, and that was run alone.
 abbrev pub RunsAlone : List ℕ → ℕ → Held → Status → List ℕ → Type 0
 RunsAlone file fuel held decided text =
-    (bytes : List ℕ) × (program : Program) × Holds held file bytes × IsScriptOf bytes program × AllBuilt program × IsReportedRun decided program fuel text
+    (bytes : List ℕ) × (program : Program) × Holds held file bytes × IsScriptOf bytes program × IsReportedRun decided program fuel text
 
--- a file was read, and its text is refused
+-- a file was read, and its text is no script of the language
 abbrev pub RefusesAlone : List ℕ → Held → List ℕ → Type 0
 RefusesAlone file held text =
-    (bytes : List ℕ) × (line : ℕ) × (rule : Rule) × Holds held file bytes × IsTextRefusal IsFirstOtherForm bytes line rule × (text ≡ script_line file line rule)
+    (bytes : List ℕ) × (line : ℕ) × (rule : Rule) × Holds held file bytes × IsNoScript bytes line rule × (text ≡ script_line file line rule)
 
 -- the refusal of a run: of its file, or of the script in it
 abbrev pub IsAloneRefusal : List ℕ → Held → ℕ → ℕ → Status → List ℕ → Type 0

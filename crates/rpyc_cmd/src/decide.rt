@@ -1,9 +1,8 @@
 ghost use Rattle.std.specs.Prelude.{◌≡◌, ◌≤◌, ℕ, map, IfOk, OnOk, IfErr, OnErr, All, IsSome, ◌⊎◌, string_bytes};
 ghost use Rattle.pair_run.specs.Running.{AreJoined, IsCutRun, wires};
 ghost use Rattle.pair_run.specs.Scripts.{AsksFor, Binds, IsFirstOtherQuestion, IsFirstOtherBinding, IsFirstUnbound, IsLetter, IsBinding, number_of};
-ghost use Rattle.built_forms.specs.BuiltForms.{AllBuilt};
 ghost use Rattle.rpyc_cmd.specs.Deciding.{IfRefused, IfNoMemory, RefusesScript, Finished};
-ghost use Rattle.rpyc_cmd.specs.Outcome.{Asks, BindsAll, IsScript, IsNoScript, IsScriptOf, IsFirstOtherForm, IsReportedRun, RunsAlone, IsAloneRefusal, IsTextRefusal, Holds, IsFileRefusal, IsRefusal, AreAccepted, IsDecided, IsDumped, PairGives, PairRunsOut, Gives, AskedRunsOut, Decides, RunsOut, Ends, outside, Unbegun};
+ghost use Rattle.rpyc_cmd.specs.Outcome.{Asks, BindsAll, IsScript, IsNoScript, IsScriptOf, IsReportedRun, RunsAlone, IsAloneRefusal, IsTextRefusal, Holds, IsFileRefusal, IsRefusal, AreAccepted, IsDecided, IsDumped, PairGives, PairRunsOut, Gives, AskedRunsOut, Decides, RunsOut, Ends, outside, Unbegun};
 ghost use Rattle.rpyc_cmd.specs.Report.{script_line};
 ghost use Rattle.rpyc_cmd.specs.Words.{asked_by};
 
@@ -11,7 +10,6 @@ use crate::alone_report::{run_report, run_status};
 use crate::report::{not_there_text, pair_report, read_fault_text, script_text, words_text};
 use crate::status::Status;
 use crate::words::{Command, read_words};
-use built_forms::first_unbuilt;
 use nested_serve::run_alone;
 use pair_run::{Binding, PairScripts, RunEnd, ScriptEnd, bindings, questions, run_pair};
 use py_ast::Program;
@@ -243,19 +241,6 @@ fn decide_dump<F: Files>(alloc: Global, name: &str, files: &mut F) -> Result<Dec
     }
 }
 
-/// The program of a text of which every form is built, or its refusal.
-fn read_built(alloc: Global, name: &str, text: &[u8]) -> Result<Program, Stop>
-    ensures accepted { IfOk result (λ program. IsScriptOf text.now program) }
-    ensures built { IfOk result AllBuilt }
-    ensures refused { IfErr result (IfRefused (RefusesScript (λ refused line rule. (refused ≡ name.now) × IsTextRefusal IsFirstOtherForm text.now line rule))) }
-{
-    let program = read_program(alloc, name, text)?;
-    match first_unbuilt(&program) {
-        None => Ok(program),
-        Some(line) => Err(refusal(alloc, name, line as usize, Rule::NotYet)),
-    }
-}
-
 /// Runs a program alone, and writes its report.
 #[tactic(auto, unfolding(crate::specs::Outcome::IsReportedRun))]
 fn run_program(alloc: Global, program: Program, fuel: u64) -> Result<Decided, NoMemory>
@@ -280,7 +265,7 @@ fn decide_alone<F: Files>(
     ensures kept { F.held files.new ≡ F.held files.old }
 {
     let bytes = read_file(alloc, name, files)?;
-    match read_built(alloc, name, bytes.as_slice()) {
+    match read_program(alloc, name, bytes.as_slice()) {
         Ok(program) => match run_program(alloc, program, fuel) {
             Ok(decided) => Ok(decided),
             Err(NoMemory) => Err(Stop::NoMemory),

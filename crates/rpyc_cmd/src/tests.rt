@@ -379,10 +379,10 @@ fn scripts_alone(rt: HostRuntime) -> Result<(), Fail> {
             "A 0\nend raised A ValueError('a', 1)\nunits 4\n",
         ),
         (
-            b"print(1)\n\nx = sorted(())\n",
+            b"print(1)\n\nx = sorted\n",
             &[],
             Status::Script,
-            "rpyc: a.py line 3 rule NotYet\n",
+            "rpyc: a.py line 3 rule S2\n",
         ),
         (
             LISTS,
