@@ -1,6 +1,9 @@
 //! Class statements (Python Language Reference, "Class definitions").
 #![tactic(auto)]
 
+mod attributes;
+mod bases;
+mod making;
 mod members;
 mod statements;
 
