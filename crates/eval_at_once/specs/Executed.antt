@@ -18,7 +18,7 @@ IsExecuted before after texts t units None = after ≡ before
 
 -- the same, for a computation that takes no unit
 abbrev pub IsBound : Cells → Cells → List Program → RuleTree → ℕ → Option ℕ → Type 0
-IsBound before after texts t units (Some left) = ((fixed : State) → at_once t (stated fixed before.cells texts) ≡ Some (Ok done, stated fixed after texts)) × (left ≡ units)
+IsBound before after texts t units (Some left) = ((fixed : State) → at_once t (stated fixed before.cells texts) ≡ Some (Ok done, stated fixed after.cells texts)) × (left ≡ units)
 IsBound before after texts t units None = after ≡ before
 
 -- the statement that a node is

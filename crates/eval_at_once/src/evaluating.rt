@@ -1,4 +1,4 @@
-ghost use Rattle.std.specs.Prelude.{◌≡◌, option_copied, slice_get};
+ghost use Rattle.std.specs.Prelude.{◌≡◌, ◌∷◌, [], IfSome, option_copied, slice_get};
 ghost use Rattle.language_rules.specs.Answers.{evaluated};
 ghost use Rattle.language_rules.specs.Texts.{node_of};
 ghost use Rattle.eval_at_once.specs.Evaluated.{IsEvaluated, expression_of};
@@ -6,7 +6,7 @@ ghost use Rattle.eval_at_once.specs.Evaluated.{IsEvaluated, expression_of};
 use crate::applying::{compare, constant, index, invert, named, operate, operate_on};
 use eval_frames::node_at;
 use object_operations::Env;
-use py_ast::{Expression, Node, Program};
+use py_ast::{Expression, Link, Node, Program};
 use py_store::Store;
 use rp_base::Value;
 use std::alloc::Global;
@@ -60,13 +60,21 @@ pub fn evaluate(
             index(alloc, a, b)
         }
         Expression::Compare { first, links } => {
-            let [link] = links.as_slice() else {
-                return None;
-            };
+            let link = only_link(links.as_slice())?;
             let a = evaluate(alloc, store, texts, env, *first, left, within)?;
             let b = evaluate(alloc, store, texts, env, link.right, a.left, within)?;
             compare(alloc, link.comparison, a, b)
         }
+        _ => None,
+    }
+}
+
+/// The link of a chain that has no other.
+fn only_link(links: &[Link]) -> Option<Link>
+    ensures { IfSome result (λ link. links.now ≡ link ∷ []) }
+{
+    match links {
+        [link] => Some(*link),
         _ => None,
     }
 }
