@@ -285,6 +285,35 @@ const RETURNS: &[u8] =
 const LISTS: &[u8] =
     b"a = [3, 1]\na[0] = 5\na += (7,)\nfor x in a:\n    print(x)\nprint(a, 7 in a, a == [5, 1, 7], len(a))\n";
 
+/// A method of a class calls that of its base, which reads the instance's own attribute.
+const CLASSES: &[u8] = b"\
+class A:
+    def __init__(self, x):
+        self.x = x
+    def get(self):
+        return self.x
+class B(A):
+    y = 2
+    def get(self):
+        return self.y + A.get(self)
+b = B(5)
+print(b.get(), b.x)
+";
+
+/// Special methods, a tuple that holds an object, `sorted` and `join`.
+const SPECIALS: &[u8] = b"\
+class P:
+    def __init__(self, n):
+        self.n = n
+    def __eq__(self, other):
+        return self.n == other.n
+    def __repr__(self):
+        return \"P\" + str(self.n)
+    def __len__(self):
+        return self.n
+print([P(1), (P(2), 3)], P(1) == P(1), len(P(4)), sorted([3, 1, 2]), \",\".join([\"a\", \"b\"]))
+";
+
 /// A list that grows while it is gone over.
 const GROWING: &[u8] =
     b"a = [1]\nfor x in a:\n    if x < 3:\n        a += [x + 1]\nprint(a, list(range(0, 5, 2)), sum(range(4)))\n";
@@ -401,6 +430,24 @@ fn scripts_alone(rt: HostRuntime) -> Result<(), Fail> {
             &[],
             Status::Done,
             "A 22\n[1, 2, 3] [0, 2, 4] 6\nend done\nunits 64\n",
+        ),
+        (
+            b"a = []\na.append(a)\nprint(a)\n",
+            &[],
+            Status::Beyond,
+            "A 0\nend beyond CyclicRepr\nunits 14\n",
+        ),
+        (
+            CLASSES,
+            &[],
+            Status::Done,
+            "A 4\n7 5\nend done\nunits 43\n",
+        ),
+        (
+            SPECIALS,
+            &[],
+            Status::Done,
+            "A 35\n[P1, (P2, 3)] True 4 [1, 2, 3] a,b\nend done\nunits 115\n",
         ),
         (
             b"d = {1: \"one\"}\nd[True] = \"yes\"\nprint(d, 1 in d)\n",
