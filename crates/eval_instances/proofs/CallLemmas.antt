@@ -194,3 +194,11 @@ made old new c i f (Ok m) now before p q h = λ fixed texts units printed.
     ∙ ap (λ (st : Cells). runs units (bind (f i) (rest (reverse before))) (stated fixed st.cells texts) printed) (sym q)
     ∙ h fixed texts units printed
 made old new c i f (Err e) now before p q h = h
+
+-- ---- two arguments that are copies
+
+pub two_told : (cells : List Cell) (now before : List Frame) (n : ℕ) (name : List ℕ) (x copied_x y copied_y : Value) (f : Value → RuleTree) (missing : RuleTree) (r : Result Next NoMemory) → copied_x ≡ x → copied_y ≡ y
+    → IfOk r (Within cells now (calls_method n name (copied_x ∷ copied_y ∷ []) f missing) before) → IfOk r (Within cells now (calls_method n name (x ∷ y ∷ []) f missing) before)
+two_told cells now before n name x copied_x y copied_y f missing r p q h =
+    subst (λ (v : Value). IfOk r (Within cells now (calls_method n name (v ∷ y ∷ []) f missing) before)) p
+    (subst (λ (w : Value). IfOk r (Within cells now (calls_method n name (copied_x ∷ w ∷ []) f missing) before)) q h)

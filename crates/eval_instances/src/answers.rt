@@ -154,11 +154,7 @@ fn may_iterate(kind: Option<Kind>) -> bool
 }
 
 /// `__eq__` gave this for `!=`: NotImplemented stays, and else the opposite of its truth is the answer.
-fn give_opposite(
-    alloc: Global,
-    stack: &mut Vec<Frame>,
-    value: Value,
-) -> Result<Next, NoMemory>
+fn give_opposite(alloc: Global, stack: &mut Vec<Frame>, value: Value) -> Result<Next, NoMemory>
     ensures means { IfOk result (λ next. Means stack.new.items next (turned value) stack.old.items) }
     ensures light { IfOk result (λ next. IsLight stack.new.items next stack.old.items) }
 {

@@ -60,11 +60,7 @@ fn call_of(
 }
 
 /// An operation, whose value is gone on with.
-fn call_over(
-    stack: &mut Vec<Frame>,
-    operation: Operation,
-    after: After,
-) -> Result<Next, NoMemory>
+fn call_over(stack: &mut Vec<Frame>, operation: Operation, after: After) -> Result<Next, NoMemory>
     ensures means { IfOk result (λ next. Means stack.new.items next (asks operation (goes_on after)) stack.old.items) }
     ensures light { IfOk result (λ next. IsLight stack.new.items next stack.old.items) }
 {

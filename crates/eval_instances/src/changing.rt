@@ -21,12 +21,7 @@ use std::alloc::Global;
 
 /// The instance or class of this number gets an attribute of its own (Python Language Reference, "Assignment
 /// statements").
-pub fn set_own(
-    store: &mut Store,
-    number: u32,
-    name: Text,
-    value: Value,
-) -> Result<Next, NoMemory>
+pub fn set_own(store: &mut Store, number: u32, name: Text, value: Value) -> Result<Next, NoMemory>
     requires { IsOwner store.old.cells number }
     ensures means { IfOk result (λ next. (fixed : State) (texts : List Program) (stack : List Frame) → MeansOver (stated fixed store.old.cells texts) (stated fixed store.new.cells texts) stack next (reads_cell number (sets_in_cell number name value)) stack) }
     ensures light { IfOk result (λ next. (stack : List Frame) → IsLight stack next stack) }

@@ -26,7 +26,14 @@ pub fn compare_instance(
 {
     match class_method(store, number, method_of(op)) {
         Some(callee) => {
-            call(alloc, stack, number, callee, slice::from_ref(other), after(op))
+            call(
+                alloc,
+                stack,
+                number,
+                callee,
+                slice::from_ref(other),
+                after(op),
+            )
         }
         None => Ok(give(Value::Plain(Plain::NotImpl))),
     }

@@ -53,7 +53,16 @@ fn instance_alone(
     match special {
         Special::Len => {
             let after = After::Method(MethodFrame::Length);
-            call_or_refuse(alloc, stack, store, number, "__len__", &[], after, "no length")
+            call_or_refuse(
+                alloc,
+                stack,
+                store,
+                number,
+                "__len__",
+                &[],
+                after,
+                "no length",
+            )
         }
         Special::Bool => truth_of(alloc, stack, store, number),
         Special::Iter => iterator_of(alloc, stack, store, number),

@@ -9,4 +9,4 @@ use Rattle.eval_instances.proofs.making.make_instance.Goals as goal
 
 pub returns-clause-means : goal.returns-clause-means
 returns-clause-means c =
-    made c.args.store.now c.make_cell-instance.new.store (cell.Instance c.args.class []) c.in_ok-instance.instance (λ i. looks (λ s. initialises i c.args.arguments (class_method s i (codes "__init__")))) c.initialise.result c.initialise.new.stack.items c.args.stack.now.items c.in_ok-instance.ensures.number c.in_ok-instance.ensures.made c.initialise.ensures.means
+    made c.args.store.now c.make_cell.new.store (cell.Instance c.args.class []) c.in_ok-instance.instance (λ i. looks (λ s. initialises i c.args.arguments (class_method s i (codes "__init__")))) c.initialise.result c.initialise.new.stack.items c.args.stack.now.items c.in_ok-instance.ensures.number c.in_ok-instance.ensures.made c.initialise.ensures.means

@@ -12,7 +12,7 @@ use Rattle.eval_instances.proofs.operations.contains.Goals as goal
 
 pub returns-in-Some-clause-means : goal.returns-in-Some-clause-means
 returns-in-Some-clause-means c =
-    method_called c.args.store.now.cells c.args.number (codes "__contains__") (c.args.x.now ∷ []) (λ v. on_truth v (λ b. gives (boolean b))) (would_drain c.args.number) c.in-Some.callee.now c.call.result c.call.new.stack.items c.args.stack.now.items c.in-Some.ensures 
+    method_called c.args.store.now.cells c.args.number (codes "__contains__") (c.args.x.now ∷ []) (λ v. on_truth v (λ b. gives (boolean b))) (would_drain c.args.number) c.in-Some.callee.now c.call.result c.call.new.stack.items c.args.stack.now.items c.in-Some.ensures
     (means_as (asks (operation.Call c.in-Some.callee.now (value.Own c.args.number ∷ c.from_ref-arguments.result.now)) (λ v. on_truth v (λ b. gives (boolean b)))) (asks (operation.Call c.in-Some.callee.now (value.Own c.args.number ∷ c.args.x.now ∷ [])) (λ v. on_truth v (λ b. gives (boolean b)))) c.call.result c.call.new.stack.items c.args.stack.now.items
     (ap (λ (vs : List Value). asks (operation.Call c.in-Some.callee.now (value.Own c.args.number ∷ vs)) (λ v. on_truth v (λ b. gives (boolean b)))) c.from_ref-arguments.ensures.value) c.call.ensures.means)
 
