@@ -186,14 +186,15 @@ compared cells n o other name vs a callee r now before named one gave is h =
 
 -- ---- a new cell
 
-pub made : (old new : Cells) (c : Cell) (i : ℕ) (f : ℕ → RuleTree) (r : Result Next NoMemory) (now before : List Frame) → i ≡ length old.cells + 1 → new ≡ record old { cells = old.cells ++ c ∷ [] }
+pub made : (old new : Cells) (c placed : Cell) (i : ℕ) (f : ℕ → RuleTree) (r : Result Next NoMemory) (now before : List Frame) → i ≡ length old.cells + 1 → new ≡ record old { cells = old.cells ++ placed ∷ [] } → placed ≡ c
     → IfOk r (Within new.cells now (f i) before) → IfOk r (λ m. (fixed : State) (texts : List Program) → MeansOver (stated fixed old.cells texts) (stated fixed new.cells texts) now m (makes c f) before)
-made old new c i f (Ok m) now before p q h = λ fixed texts units printed.
+made old new c placed i f (Ok m) now before p q e h = λ fixed texts units printed.
     let one : suc (length old.cells) ≡ i = omega (arith, p) in
     ap (λ (k : ℕ). runs units (bind (f k) (rest (reverse before))) (stated fixed (old.cells ++ c ∷ []) texts) printed) one
+    ∙ ap (λ (d : Cell). runs units (bind (f i) (rest (reverse before))) (stated fixed (old.cells ++ d ∷ []) texts) printed) (sym e)
     ∙ ap (λ (st : Cells). runs units (bind (f i) (rest (reverse before))) (stated fixed st.cells texts) printed) (sym q)
     ∙ h fixed texts units printed
-made old new c i f (Err e) now before p q h = h
+made old new c placed i f (Err x) now before p q e h = h
 
 -- ---- two arguments that are copies
 

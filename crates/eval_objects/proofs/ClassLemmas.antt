@@ -1,5 +1,5 @@
 -- Classes and bound methods, which answer special operations as functions do.
-use Rattle.std.proofs.Common.{◌≡◌, ℕ, List, [], ◌∷◌, Option, Some, Result, Ok, Err, IfOk, refl, sym, subst}
+use Rattle.std.proofs.Common.{◌≡◌, ℕ, List, [], ◌∷◌, reverse, Option, Some, Result, Ok, Err, IfOk, refl, ◌∙◌, ap, subst}
 use Rattle.rp_base.specs.declared.ends.NoMemory.{NoMemory}
 use Rattle.rp_base.specs.declared.value.Value.{Value}
 use Rattle.object_operations.specs.declared.special.Special.{Special}
@@ -10,11 +10,15 @@ use Rattle.py_store.specs.declared.cell.Binding.{Binding}
 use Rattle.py_store.specs.declared.cell.Cell.{Cell}
 use Rattle.py_store.specs.declared.cell.Cell.TheVariants as cell
 use Rattle.py_store.specs.declared.cell.Method.{Method}
-use Rattle.language_rules.specs.Going.{RuleTree, reads_cell}
+use Rattle.side_trees.specs.Trees.{bind}
+use Rattle.language_rules.specs.AtOnce.{stated}
+use Rattle.language_rules.specs.Going.{RuleTree, on_cell, reads_cell}
 use Rattle.language_rules.specs.Perform.{special_of_cell}
+use Rattle.language_rules.specs.Running.{runs}
+use Rattle.language_rules.specs.States.{State}
 use Rattle.eval_frames.specs.declared.frame.Frame.{Frame}
 use Rattle.eval_frames.specs.declared.next.Next.{Next}
-use Rattle.eval_frames.specs.Meaning.{Means}
+use Rattle.eval_frames.specs.Meaning.{Means, MeansIn, rest}
 use Rattle.eval_ranges.proofs.CellSteps.{at_cell}
 use Rattle.eval_ranges.proofs.SpecialLemmas.{Within, within}
 
@@ -127,3 +131,18 @@ class_there cells n name base attributes o vs r is h = as_function cells n (cell
 pub bound_there : (cells : List Cell) (n : ℕ) (receiver : Value) (m : Method) (o : Special) (vs : List Value) (r : Result Next NoMemory) → cell_of cells n ≡ Some (cell.Bound receiver m)
     → IfOk r (OfFunction o vs) → IfOk r (Within cells (reads_cell n (special_of_cell o n vs)))
 bound_there cells n receiver m o vs r is h = as_function cells n (cell.Bound receiver m) o vs r is (of_bound o n vs receiver m) h
+
+-- ---- instances
+
+pub instance_there : (cells : List Cell) (now before : List Frame) (n class_no : ℕ) (attributes : List Binding) (o : Special) (vs : List Value) (r : Result Next NoMemory) → cell_of cells n ≡ Some (cell.Instance class_no attributes)
+    → IfOk r (λ next. (k : ℕ) (bs : List Binding) (fixed : State) (texts : List Program) → MeansIn (stated fixed cells texts) now next (special_of_cell o n vs (cell.Instance k bs)) before)
+    → IfOk r (λ next. (fixed : State) (texts : List Program) → MeansIn (stated fixed cells texts) now next (reads_cell n (special_of_cell o n vs)) before)
+instance_there cells now before n class_no attributes o vs (Ok next) is h = λ fixed texts units printed.
+    ap (λ (c : Option Cell). runs units (bind (on_cell (special_of_cell o n vs) c) (rest (reverse before))) (stated fixed cells texts) printed) is
+    ∙ h class_no attributes fixed texts units printed
+instance_there cells now before n class_no attributes o vs (Err e) is h = h
+
+-- over a stack that stays
+pub over_stack : (cells : List Cell) (t : RuleTree) (stack : List Frame) (r : Result Next NoMemory) → IfOk r (Within cells t) → IfOk r (λ next. (fixed : State) (texts : List Program) → MeansIn (stated fixed cells texts) stack next t stack)
+over_stack cells t stack (Ok next) h = λ fixed texts. h fixed texts stack
+over_stack cells t stack (Err e) h = h

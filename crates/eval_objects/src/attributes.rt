@@ -160,6 +160,7 @@ fn set_in(
     }
 }
 
+#[tactic(auto, using(crate::proofs::AttributeLemmas::owner_told))]
 fn set_in_object(
     alloc: Global,
     store: &mut Store,
@@ -249,6 +250,7 @@ fn delete_in(
     }
 }
 
+#[tactic(auto, using(crate::proofs::AttributeLemmas::owner_told))]
 fn delete_in_object(
     alloc: Global,
     store: &mut Store,
