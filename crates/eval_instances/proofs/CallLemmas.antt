@@ -19,7 +19,7 @@ use Rattle.side_trees.specs.Trees.{Return, bind}
 use Rattle.language_rules.specs.Answers.{asked, gives}
 use Rattle.language_rules.specs.AtOnce.{stated}
 use Rattle.language_rules.specs.Attributes.{by_method, calls_method, calls_or, class_method}
-use Rattle.language_rules.specs.Calls.{initialised, initialises}
+use Rattle.language_rules.specs.Calls.{initialised, initialises, makes_instance}
 use Rattle.language_rules.specs.CellComparing.{instance_compare, method_gave, method_of, not_implemented}
 use Rattle.language_rules.specs.Codes.{Breaks, Completion, Continues, Drained, Give, Gives, Raises, Returns}
 use Rattle.language_rules.specs.Going.{RuleTree, asks, looks, makes, on_value, operates}
@@ -203,3 +203,9 @@ pub two_told : (cells : List Cell) (now before : List Frame) (n : ℕ) (name : L
 two_told cells now before n name x copied_x y copied_y f missing r p q h =
     subst (λ (v : Value). IfOk r (Within cells now (calls_method n name (v ∷ y ∷ []) f missing) before)) p
     (subst (λ (w : Value). IfOk r (Within cells now (calls_method n name (copied_x ∷ w ∷ []) f missing) before)) q h)
+
+pub instance_made : (old new : Cells) (class_no i : ℕ) (vs as_told : List Value) (bs : List Binding) (r : Result Next NoMemory) (now before : List Frame) → i ≡ length old.cells + 1 → new ≡ record old { cells = old.cells ++ cell.Instance class_no bs ∷ [] } → bs ≡ [] → as_told ≡ vs
+    → IfOk r (Within new.cells now (looks (λ s. initialises i as_told (class_method s i (codes "__init__")))) before) → IfOk r (λ m. (fixed : State) (texts : List Program) → MeansOver (stated fixed old.cells texts) (stated fixed new.cells texts) now m (makes_instance class_no vs) before)
+instance_made old new class_no i vs as_told bs r now before p q e same h =
+    made old new (cell.Instance class_no []) (cell.Instance class_no bs) i (λ j. looks (λ s. initialises j vs (class_method s j (codes "__init__")))) r now before p q (ap (λ (cs : List Binding). cell.Instance class_no cs) e)
+    (subst (λ (ws : List Value). IfOk r (Within new.cells now (looks (λ s. initialises i ws (class_method s i (codes "__init__")))) before)) same h)

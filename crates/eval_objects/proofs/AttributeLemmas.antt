@@ -4,6 +4,7 @@ use Rattle.rp_base.specs.declared.ends.NoMemory.{NoMemory}
 use Rattle.rp_base.specs.declared.exceptions.Beyond.TheVariants as beyond
 use Rattle.rp_base.specs.declared.plain.Plain.{Plain}
 use Rattle.rp_base.specs.declared.plain.Plain.TheVariants as plain
+use Rattle.rp_base.specs.declared.value.Value.{Value}
 use Rattle.rp_base.specs.declared.value.Value.TheVariants as value
 use Rattle.object_operations.specs.Names.{method_among, text_methods}
 use Rattle.object_operations.specs.declared.method.BuiltinMethod.{BuiltinMethod}
@@ -12,7 +13,7 @@ use Rattle.py_store.specs.Cells.{cell_of}
 use Rattle.py_store.specs.declared.cell.Cell.{Cell}
 use Rattle.side_trees.specs.Trees.{Stop, bind}
 use Rattle.language_rules.specs.AtOnce.{stated}
-use Rattle.language_rules.specs.Attributes.{attribute_of, bound_method, cell_attribute}
+use Rattle.language_rules.specs.Attributes.{attribute_of, bound_method, cell_attribute, sets_in_cell}
 use Rattle.language_rules.specs.Going.{RuleTree, looks, on_cell, reads_cell}
 use Rattle.language_rules.specs.Running.{runs}
 use Rattle.language_rules.specs.States.{State}
@@ -93,3 +94,10 @@ of_text receiver held copied name found m is same so h =
     subst (λ (p : Plain). Plainly (attribute_of (value.Plain p) name) m) (sym is)
     (subst (λ (t : List ℕ). Plainly (bound_method (value.Plain (plain.Text t)) (method_among text_methods name)) m) same
     (subst (λ (o : Option BuiltinMethod). Plainly (bound_method (value.Plain (plain.Text copied)) o) m) so h))
+
+-- an attribute that is set to a copy
+pub copies_set : (old after : List Cell) (n : ℕ) (name copied_name : List ℕ) (v copied : Value) (r : Result Next NoMemory) → copied_name ≡ name → copied ≡ v
+    → IfOk r (Over old after (reads_cell n (sets_in_cell n copied_name copied))) → IfOk r (Over old after (reads_cell n (sets_in_cell n name v)))
+copies_set old after n name copied_name v copied r p q h =
+    subst (λ (w : List ℕ). IfOk r (Over old after (reads_cell n (sets_in_cell n w v)))) p
+    (subst (λ (u : Value). IfOk r (Over old after (reads_cell n (sets_in_cell n copied_name u)))) q h)

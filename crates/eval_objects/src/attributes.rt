@@ -1,11 +1,12 @@
 ghost use Rattle.std.specs.Prelude.{◌≡◌, ℕ, IfOk, List};
-ghost use Rattle.rp_base.specs.declared.value.Value.TheVariants as value;
+ghost use Rattle.rp_base.specs.declared.value.Value.TheVariants as variant;
 ghost use Rattle.py_ast.specs.declared.program.Program.{Program};
 ghost use Rattle.eval_frames.specs.declared.frame.Frame.{Frame};
 ghost use Rattle.eval_frames.specs.Meaning.{IsLight, Means, MeansIn, MeansOver};
 ghost use Rattle.language_rules.specs.AtOnce.{stated};
 ghost use Rattle.language_rules.specs.Attributes.{attribute_of, cell_attribute, delete_attribute, deletes_in, get_attribute, is_private, set_attribute, sets_in};
 ghost use Rattle.language_rules.specs.States.{State};
+ghost use Rattle.eval_instances.specs.Owners.{IsOwner};
 ghost use Rattle.eval_objects.specs.Receivers.{OwnsOrNot, OwnsOrNotCell};
 
 use crate::exceptions::no_attribute;
@@ -64,7 +65,7 @@ fn attribute_of_object(
     number: u32,
     name: &str,
 ) -> Result<Next, NoMemory>
-    ensures means { IfOk result (λ next. (fixed : State) (texts : List Program) (stack : List Frame) → MeansIn (stated fixed store.now.cells texts) stack next (attribute_of (value.Own number) name.now) stack) }
+    ensures means { IfOk result (λ next. (fixed : State) (texts : List Program) (stack : List Frame) → MeansIn (stated fixed store.now.cells texts) stack next (attribute_of (variant.Own number) name.now) stack) }
     ensures light { IfOk result (λ next. (stack : List Frame) → IsLight stack next stack) }
 {
     match store.get(number) {
@@ -106,7 +107,7 @@ fn attribute_of_cell(
 
 /// Of what is no object only texts have attributes, which are methods.
 fn attribute_of_plain(alloc: Global, receiver: &Plain, name: &str) -> Result<Next, NoMemory>
-    ensures means { IfOk result (λ next. (stack : List Frame) → Means stack next (attribute_of (value.Plain receiver.now) name.now) stack) }
+    ensures means { IfOk result (λ next. (stack : List Frame) → Means stack next (attribute_of (variant.Plain receiver.now) name.now) stack) }
     ensures light { IfOk result (λ next. (stack : List Frame) → IsLight stack next stack) }
 {
     match receiver {
@@ -168,19 +169,30 @@ fn set_in_object(
     name: &str,
     value: &Value,
 ) -> Result<Next, NoMemory>
-    ensures means { IfOk result (λ next. (fixed : State) (texts : List Program) (stack : List Frame) → MeansOver (stated fixed store.old.cells texts) (stated fixed store.new.cells texts) stack next (sets_in (value.Own number) name.now value.now) stack) }
+    ensures means { IfOk result (λ next. (fixed : State) (texts : List Program) (stack : List Frame) → MeansOver (stated fixed store.old.cells texts) (stated fixed store.new.cells texts) stack next (sets_in (variant.Own number) name.now value.now) stack) }
     ensures light { IfOk result (λ next. (stack : List Frame) → IsLight stack next stack) }
 {
     match owner_at(store, number) {
-        Some(true) => set_own(
-            store,
-            number,
-            Text::from_str(alloc, name)?,
-            value.copy(alloc)?,
-        ),
+        Some(true) => set_in_owner(alloc, store, number, name, value),
         Some(false) => Ok(Next::Leave(Beyond::Attribute)),
         None => Ok(Next::Leave(Beyond::NotYet)),
     }
+}
+
+fn set_in_owner(
+    alloc: Global,
+    store: &mut Store,
+    number: u32,
+    name: &str,
+    value: &Value,
+) -> Result<Next, NoMemory>
+    requires { IsOwner store.old.cells number }
+    ensures means { IfOk result (λ next. (fixed : State) (texts : List Program) (stack : List Frame) → MeansOver (stated fixed store.old.cells texts) (stated fixed store.new.cells texts) stack next (sets_in (variant.Own number) name.now value.now) stack) }
+    ensures light { IfOk result (λ next. (stack : List Frame) → IsLight stack next stack) }
+{
+    let name = Text::from_str(alloc, name)?;
+    let value = value.copy(alloc)?;
+    set_own(store, number, name, value)
 }
 
 /// Whether the cell of this number is an instance or a class, if there is one.
@@ -257,7 +269,7 @@ fn delete_in_object(
     number: u32,
     name: &str,
 ) -> Result<Next, NoMemory>
-    ensures means { IfOk result (λ next. (fixed : State) (texts : List Program) (stack : List Frame) → MeansOver (stated fixed store.old.cells texts) (stated fixed store.new.cells texts) stack next (deletes_in (value.Own number) name.now) stack) }
+    ensures means { IfOk result (λ next. (fixed : State) (texts : List Program) (stack : List Frame) → MeansOver (stated fixed store.old.cells texts) (stated fixed store.new.cells texts) stack next (deletes_in (variant.Own number) name.now) stack) }
     ensures light { IfOk result (λ next. (stack : List Frame) → IsLight stack next stack) }
 {
     match owner_at(store, number) {
