@@ -23,9 +23,9 @@ use Rattle.eval_objects.specs.declared.comparing.Comparing.{Comparing}
 
 pub compared_there : (cells : List Cell) (number : ℕ) (c : Cell) (op : CmpOp) (other : Value) (k : Option Kind) (way : Comparing) (r : Result Next NoMemory) (now before : List Frame) → cell_of cells number ≡ Some c
     → ((fixed : State) (texts : List Program) → k ≡ kind_of (stated fixed cells texts) other) → cells_compared number op other c k ≡ compared_as way number op other
-    → IfOk r (λ n. (s : State) → MeansIn s now n (compared_as way number op other) before) → IfOk r (λ n. (fixed : State) (texts : List Program) → MeansIn (stated fixed cells texts) now n (cell_compare number op other) before)
+    → IfOk r (λ n. (fixed : State) (texts : List Program) → MeansIn (stated fixed cells texts) now n (compared_as way number op other) before) → IfOk r (λ n. (fixed : State) (texts : List Program) → MeansIn (stated fixed cells texts) now n (cell_compare number op other) before)
 compared_there cells number c op other k way (Ok n) now before is kinds so h = λ fixed texts units printed.
     ap (λ (o : Option Cell). runs units (bind (on_cell (λ d. on_kind other (cells_compared number op other d)) o) (rest (reverse before))) (stated fixed cells texts) printed) is
     ∙ of_kind other (cells_compared number op other c) k n (stated fixed cells texts) now before (kinds fixed texts)
-    (subst (λ (t : RuleTree). MeansIn (stated fixed cells texts) now n t before) (sym so) (h (stated fixed cells texts))) units printed
+    (subst (λ (t : RuleTree). MeansIn (stated fixed cells texts) now n t before) (sym so) (h fixed texts)) units printed
 compared_there cells number c op other k way (Err e) now before is kinds so h = h

@@ -1,3 +1,5 @@
+pub mod AttributeLemmas
+pub mod ClassLemmas
 pub mod CompareLemmas
 pub mod FunctionLemmas
 pub mod IteratorLemmas

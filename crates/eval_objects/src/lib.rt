@@ -1,5 +1,5 @@
-//! Operations that are carried out where their receiver lives, behind their unit: those of functions, lists, ranges,
-//! dicts, views and iterators, and of what is no object.
+//! Operations that are carried out where their receiver lives, behind their unit: those of functions, classes,
+//! instances, bound methods, lists, ranges, dicts, views and iterators, and of what is no object.
 #![tactic(auto)]
 
 mod advancing;
@@ -8,6 +8,7 @@ mod comparing;
 mod exceptions;
 mod functions;
 mod iterators;
+mod methods;
 mod performing;
 mod plain_receivers;
 mod printing;

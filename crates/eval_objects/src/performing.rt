@@ -21,8 +21,8 @@ use std::alloc::Global;
 /// The number of a side's root.
 const ROOT: u32 = 2;
 
-/// An operation on an own object, or on what is none, behind its unit. Calls and texts belong elsewhere; instances,
-/// classes, the namespace and what a connection has are not built yet, nor is any attribute.
+/// An operation on an own object, or on what is none, behind its unit. Calls and texts belong elsewhere; the namespace
+/// and what a connection has come with the connection.
 pub fn perform(
     alloc: Global,
     stack: &mut Vec<Frame>,
@@ -38,9 +38,11 @@ pub fn perform(
         Operation::GetAttr { receiver, name } => {
             get_attribute(alloc, store, receiver, name.as_str())
         }
-        Operation::SetAttr { receiver, name, .. } => {
-            set_attribute(alloc, store, receiver, name.as_str())
-        }
+        Operation::SetAttr {
+            receiver,
+            name,
+            value,
+        } => set_attribute(alloc, store, receiver, name.as_str(), value),
         Operation::DelAttr { receiver, name } => {
             delete_attribute(alloc, store, receiver, name.as_str())
         }

@@ -13,6 +13,7 @@ use crate::iterators::special_of_iterator;
 use crate::plain_receivers::special_of_plain;
 use eval_dicts::{special_of_dict, special_of_view};
 use eval_frames::{Frame, Next};
+use eval_instances::special_of_instance;
 use eval_lists::special_of_list;
 use eval_ranges::{refuse, special_of_range};
 use object_operations::{Completion, Special};
@@ -41,8 +42,8 @@ pub(crate) fn special_operation(
     }
 }
 
-/// A special operation on the object of this number, by its kind. Those on instances, classes, the namespace and what a
-/// connection has are not built yet.
+/// A special operation on the object of this number, by its kind. Those on the namespace and on what a connection has
+/// come with the connection.
 fn special_of_object(
     alloc: Global,
     stack: &mut Vec<Frame>,
@@ -56,6 +57,11 @@ fn special_of_object(
 {
     match store.get(number) {
         Some(Cell::Function { .. }) => special_of_function(alloc, special, arguments),
+        Some(Cell::Class { .. }) => special_of_function(alloc, special, arguments),
+        Some(Cell::Bound { .. }) => special_of_function(alloc, special, arguments),
+        Some(Cell::Instance { .. }) => {
+            special_of_instance(alloc, stack, store, number, special, arguments)
+        }
         Some(Cell::Range { start, stop, step }) => {
             special_of_range(
                 alloc, store, number, *start, *stop, *step, special, arguments,
@@ -74,7 +80,8 @@ fn special_of_object(
     }
 }
 
-/// What a function answers: it has no items and no length, no operator takes it, and it is true.
+/// What a function answers, and a class or a bound method too: it has no items and no length, no operator takes it, and
+/// it is true.
 fn special_of_function(
     alloc: Global,
     special: Special,

@@ -1,2 +1,3 @@
+pub mod InstanceTexts
 pub mod PartLaws
 pub mod StackLaws

@@ -18,13 +18,14 @@ use crate::lists::put_items;
 use crate::ranges::range_text;
 use crate::waiting::{ask_item, ask_value, given, left};
 use eval_frames::{Frame, Next, TextFrame};
+use eval_instances::{repr_of_instance, str_of_instance};
 use py_store::{Cell, Entries, Store};
 use rp_base::{Beyond, NoMemory, OpEnd, Value};
 use sqlite_items::Items;
 use std::alloc::Global;
 
-/// `repr` of an own object (Python Library Reference, "Built-in Functions", `repr`). Instances are not built yet, nor
-/// is an item that is a tuple which holds a reference.
+/// `repr` of an own object (Python Library Reference, "Built-in Functions", `repr`). An item that is a tuple which holds
+/// a reference is not built yet.
 pub fn repr_of(
     alloc: Global,
     stack: &mut Vec<Frame>,
@@ -36,7 +37,7 @@ pub fn repr_of(
     ensures light { IfOk result (λ n. IsLight stack.new.items n stack.old.items) }
 {
     match receiver {
-        Value::Own(number) => text_at(alloc, stack, store, printing, *number),
+        Value::Own(number) => repr_at(alloc, stack, store, printing, *number),
         Value::Plain(_) => Ok(Next::Leave(Beyond::NotYet)),
         Value::Tuple(_) => Ok(Next::Leave(Beyond::NotYet)),
         Value::Proxy(_) => Ok(Next::Leave(Beyond::NotYet)),
@@ -55,31 +56,50 @@ pub fn str_of(
     ensures light { IfOk result (λ n. IsLight stack.new.items n stack.old.items) }
 {
     match receiver {
-        Value::Own(number) => text_at(alloc, stack, store, printing, *number),
+        Value::Own(number) => str_at(alloc, stack, store, printing, *number),
         Value::Plain(_) => Ok(Next::Leave(Beyond::NotYet)),
         Value::Tuple(_) => Ok(Next::Leave(Beyond::NotYet)),
         Value::Proxy(_) => Ok(Next::Leave(Beyond::NotYet)),
     }
 }
 
-/// The text of the cell of this number.
-fn text_at(
+/// The repr of the cell of this number.
+fn repr_at(
     alloc: Global,
     stack: &mut Vec<Frame>,
     store: &Store,
     printing: &mut Items<u32>,
     number: u32,
 ) -> Result<Next, NoMemory>
-    ensures repr { IfOk result (λ n. (fixed : State) (texts : List Program) → MeansOver (shown fixed store.now.cells texts printing.old) (shown fixed store.now.cells texts printing.new) stack.new.items n (cell_repr number) stack.old.items) }
-    ensures str { IfOk result (λ n. (fixed : State) (texts : List Program) → MeansOver (shown fixed store.now.cells texts printing.old) (shown fixed store.now.cells texts printing.new) stack.new.items n (cell_str number) stack.old.items) }
+    ensures means { IfOk result (λ n. (fixed : State) (texts : List Program) → MeansOver (shown fixed store.now.cells texts printing.old) (shown fixed store.now.cells texts printing.new) stack.new.items n (cell_repr number) stack.old.items) }
     ensures light { IfOk result (λ n. IsLight stack.new.items n stack.old.items) }
 {
     match store.get(number) {
+        Some(Cell::Instance { .. }) => repr_of_instance(alloc, stack, store, number),
         Some(cell) => text_of_cell(alloc, stack, printing, number, cell),
         None => Ok(Next::Leave(Beyond::NotYet)),
     }
 }
 
+/// The str of the cell of this number.
+fn str_at(
+    alloc: Global,
+    stack: &mut Vec<Frame>,
+    store: &Store,
+    printing: &mut Items<u32>,
+    number: u32,
+) -> Result<Next, NoMemory>
+    ensures means { IfOk result (λ n. (fixed : State) (texts : List Program) → MeansOver (shown fixed store.now.cells texts printing.old) (shown fixed store.now.cells texts printing.new) stack.new.items n (cell_str number) stack.old.items) }
+    ensures light { IfOk result (λ n. IsLight stack.new.items n stack.old.items) }
+{
+    match store.get(number) {
+        Some(Cell::Instance { .. }) => str_of_instance(alloc, stack, store, number),
+        Some(cell) => text_of_cell(alloc, stack, printing, number, cell),
+        None => Ok(Next::Leave(Beyond::NotYet)),
+    }
+}
+
+/// The text of a cell, which is both its repr and its str; those of an instance are made by methods.
 fn text_of_cell(
     alloc: Global,
     stack: &mut Vec<Frame>,

@@ -14,3 +14,6 @@ returns-in-View c = λ number op other. ap (λ (d : Cell). cells_compared number
 
 pub returns-in-Range : goal.returns-in-Range
 returns-in-Range c = λ number op other. ap (λ (d : Cell). cells_compared number op other d c.args.kind) c.in-Range.is ∙ c.of_range.ensures number op other c.in-Range.start c.in-Range.stop c.in-Range.step
+
+pub returns-in-Bound : goal.returns-in-Bound
+returns-in-Bound c = λ number op other. ap (λ (d : Cell). cells_compared number op other d c.args.kind) c.in-Bound.is ∙ c.of_bound.ensures number op other c.in-Bound.receiver c.in-Bound.method
