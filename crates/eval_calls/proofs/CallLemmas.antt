@@ -1,5 +1,5 @@
 -- A call, from the value that is called to the scope that is made.
-use Rattle.std.proofs.Common.{◌≡◌, ◌==◌, ℕ, Bool, false, if◌then◌else◌, List, codes, length, reverse, Option, Some, Result, Ok, Err, IfOk, sym, ◌∙◌, ap}
+use Rattle.std.proofs.Common.{◌≡◌, ◌==◌, ℕ, Bool, false, if◌then◌else◌, List, codes, length, reverse, Option, Some, Result, Ok, Err, IfOk, sym, ◌∙◌, ap, subst}
 use Rattle.rp_base.specs.declared.ends.NoMemory.{NoMemory}
 use Rattle.rp_base.specs.declared.value.Value.{Value}
 use Rattle.py_ast.specs.declared.program.FunctionInfo.{FunctionInfo}
@@ -16,6 +16,8 @@ use Rattle.language_rules.specs.States.{State}
 use Rattle.eval_frames.specs.declared.frame.Frame.{Frame}
 use Rattle.eval_frames.specs.declared.next.Next.{Next}
 use Rattle.eval_frames.specs.Meaning.{Means, MeansOver, rest}
+use Rattle.eval_calls.specs.Closures.{calls_callee}
+use Rattle.eval_calls.specs.declared.calling.Callee.{Callee}
 use Rattle.eval_calls.specs.Waiting.{begins_call}
 
 -- a step over the cells before and after
@@ -62,3 +64,26 @@ called_cell number arguments c t texts cells cells' now before (Ok n) is rule h 
     cell-found number (calls_cell number arguments) c texts cells cells' now before n is
     (λ fixed units printed. ap (λ (x : RuleTree). runs units (bind x (rest (reverse before))) (stated fixed cells texts) printed) rule ∙ h fixed units printed)
 called_cell number arguments c t texts cells cells' now before (Err e) is rule h = h
+
+-- ---- what a cell is when it is called
+
+pub callee_told : (number : ℕ) (callee as_told : Callee) (arguments : List Value) (t : RuleTree) (texts : List Program) (cells cells' : List Cell) (now before : List Frame) (r : Result Next NoMemory)
+    → callee ≡ as_told → calls_callee number as_told arguments ≡ t
+    → IfOk r (λ n. Over texts cells cells' now n t before)
+    → IfOk r (λ n. Over texts cells cells' now n (calls_callee number callee arguments) before)
+callee_told number callee as_told arguments t texts cells cells' now before r is rule h =
+    subst (λ (x : RuleTree). IfOk r (λ n. Over texts cells cells' now n x before)) (sym rule ∙ ap (λ (x : Callee). calls_callee number x arguments) (sym is)) h
+
+-- whatever the texts are
+pub these_texts : (t : RuleTree) (texts : List Program) (cells cells' : List Cell) (now before : List Frame) (r : Result Next NoMemory)
+    → IfOk r (λ n. (fixed : State) (texts : List Program) → MeansOver (stated fixed cells texts) (stated fixed cells' texts) now n t before)
+    → IfOk r (λ n. Over texts cells cells' now n t before)
+these_texts t texts cells cells' now before (Ok n) h = λ fixed. h fixed texts
+these_texts t texts cells cells' now before (Err e) h = h
+
+-- whatever waits
+pub this_stack : (t : RuleTree) (texts : List Program) (cells : List Cell) (stack : List Frame) (r : Result Next NoMemory)
+    → IfOk r (λ n. (stack : List Frame) → Means stack n t stack)
+    → IfOk r (λ n. Over texts cells cells stack n t stack)
+this_stack t texts cells stack (Ok n) h = λ fixed units printed. ap (λ (x : RuleTree). runs units x (stated fixed cells texts) printed) (sym (h stack))
+this_stack t texts cells stack (Err e) h = h

@@ -1,23 +1,28 @@
-ghost use Rattle.std.specs.Prelude.{◌≡◌, ℕ, IfOk, List, length};
+ghost use Rattle.std.specs.Prelude.{◌≡◌, ◌∷◌, ℕ, IfOk, List, length};
 ghost use Rattle.rp_base.specs.declared.value.Value.{Value};
-ghost use Rattle.eval_frames.specs.Meaning.{IsLight, MeansOver};
+ghost use Rattle.object_operations.specs.declared.operation.Operation.TheVariants as operation;
+ghost use Rattle.eval_frames.specs.declared.frame.Frame.{Frame};
+ghost use Rattle.eval_frames.specs.Meaning.{IsLight, Means, MeansOver};
+ghost use Rattle.language_rules.specs.Answers.{asked};
 ghost use Rattle.language_rules.specs.AtOnce.{stated};
-ghost use Rattle.language_rules.specs.Calls.{call_value, calls_cell};
+ghost use Rattle.language_rules.specs.Calls.{call_value, calls_bound, calls_cell};
 ghost use Rattle.language_rules.specs.Functions.{calls_function, runs_function};
 ghost use Rattle.language_rules.specs.Going.{reads_cell};
 ghost use Rattle.language_rules.specs.States.{State};
-ghost use Rattle.eval_calls.specs.Closures.{calls_closure};
+ghost use Rattle.eval_calls.specs.Closures.{calls_callee};
 ghost use Rattle.eval_calls.specs.Waiting.{begins_call};
 
 use crate::bodies::begin_body;
 use crate::exceptions::refuse;
 use crate::making::make_cell;
 use crate::scopes::bind_parameters;
-use eval_frames::{Frame, Next};
+use eval_frames::{Frame, Next, operate};
+use eval_instances::make_instance;
+use eval_methods::call_method;
 use eval_names::function_at;
-use object_operations::Env;
+use object_operations::{BuiltinMethod, Env, Operation};
 use py_ast::{FunctionInfo, Program};
-use py_store::{Cell, Store};
+use py_store::{Cell, Method, Store};
 use rp_base::{Beyond, NoMemory, Value};
 use sqlite_items::Items;
 use std::alloc::Global;
@@ -30,8 +35,27 @@ struct Closure {
     scope: u32,
 }
 
+/// What a cell is when it is called.
+#[derive(Drop)]
+enum Callee {
+    Function(Closure),
+    /// A bound function, which is called with the receiver first.
+    Method {
+        receiver: Value,
+        function: Value,
+    },
+    /// A method of a builtin kind.
+    Builtin {
+        receiver: Value,
+        method: BuiltinMethod,
+    },
+    Class,
+    /// It can't be called.
+    Other,
+}
+
 /// `callee(arguments)`, behind its unit (Python Language Reference, "Calls"). A value that can't be called is a
-/// `TypeError`. Calls of bound methods, of classes and of functions of modules are not built yet.
+/// `TypeError`. Calls of functions of modules are not built yet: they come with the pair.
 pub fn call(
     alloc: Global,
     stack: &mut Vec<Frame>,
@@ -44,7 +68,7 @@ pub fn call(
     ensures light { IfOk result (λ next. IsLight stack.new.items next stack.old.items) }
 {
     match callee {
-        Value::Own(number) => call_cell(alloc, stack, store, texts, *number, arguments.as_slice()),
+        Value::Own(number) => call_cell(alloc, stack, store, texts, *number, arguments),
         Value::Plain(_) => refuse(alloc, "not callable"),
         Value::Tuple(_) => refuse(alloc, "not callable"),
         Value::Proxy(_) => refuse(alloc, "not callable"),
@@ -58,66 +82,118 @@ fn call_cell(
     store: &mut Store,
     texts: &[Program],
     number: u32,
-    arguments: &[Value],
+    arguments: Items<Value>,
 ) -> Result<Next, NoMemory>
-    ensures means { IfOk result (λ next. (fixed : State) → MeansOver (stated fixed store.old.cells texts.now) (stated fixed store.new.cells texts.now) stack.new.items next (reads_cell number (calls_cell number arguments.now)) stack.old.items) }
+    ensures means { IfOk result (λ next. (fixed : State) → MeansOver (stated fixed store.old.cells texts.now) (stated fixed store.new.cells texts.now) stack.new.items next (reads_cell number (calls_cell number arguments)) stack.old.items) }
     ensures light { IfOk result (λ next. IsLight stack.new.items next stack.old.items) }
 {
     let Some(cell) = store.get(number) else {
         return Ok(Next::Leave(Beyond::NotYet));
     };
-    let closure = closure_of(cell)?;
-    call_closure(alloc, stack, store, texts, closure, arguments)
+    let callee = callee_of(alloc, cell)?;
+    call_callee(alloc, stack, store, texts, number, callee, arguments)
 }
 
-/// The function that a cell is; none for what can't be called.
-fn closure_of(cell: &Cell) -> Result<Option<Closure>, NoMemory>
-    ensures { IfOk result (λ closure. (number : ℕ) (arguments : List Value) → calls_cell number arguments cell.now ≡ calls_closure closure arguments) }
+/// What a cell is when it is called.
+fn callee_of(alloc: Global, cell: &Cell) -> Result<Callee, NoMemory>
+    ensures { IfOk result (λ callee. (number : ℕ) (arguments : List Value) → calls_cell number arguments cell.now ≡ calls_callee number callee arguments) }
 {
-    match *cell {
+    match cell {
         Cell::Function {
             text,
             function,
             scope,
-        } => Ok(Some(Closure {
-            text,
-            function,
-            scope,
+        } => Ok(Callee::Function(Closure {
+            text: *text,
+            function: *function,
+            scope: *scope,
         })),
-        Cell::Bound { .. } => Err(NoMemory),
-        Cell::Class { .. } => Err(NoMemory),
+        Cell::Bound { receiver, method } => bound_callee(alloc, receiver, method),
+        Cell::Class { .. } => Ok(Callee::Class),
         Cell::HostFunc { .. } => Err(NoMemory),
-        Cell::List(_) => Ok(None),
-        Cell::Dict { .. } => Ok(None),
-        Cell::Scope { .. } => Ok(None),
-        Cell::Namespace { .. } => Ok(None),
-        Cell::Instance { .. } => Ok(None),
-        Cell::Iter { .. } => Ok(None),
-        Cell::View { .. } => Ok(None),
-        Cell::Range { .. } => Ok(None),
-        Cell::Host(_) => Ok(None),
-        Cell::Conn { .. } => Ok(None),
-        Cell::Modules { .. } => Ok(None),
-        Cell::Root => Ok(None),
+        Cell::List(_) => Ok(Callee::Other),
+        Cell::Dict { .. } => Ok(Callee::Other),
+        Cell::Scope { .. } => Ok(Callee::Other),
+        Cell::Namespace { .. } => Ok(Callee::Other),
+        Cell::Instance { .. } => Ok(Callee::Other),
+        Cell::Iter { .. } => Ok(Callee::Other),
+        Cell::View { .. } => Ok(Callee::Other),
+        Cell::Range { .. } => Ok(Callee::Other),
+        Cell::Host(_) => Ok(Callee::Other),
+        Cell::Conn { .. } => Ok(Callee::Other),
+        Cell::Modules { .. } => Ok(Callee::Other),
+        Cell::Root => Ok(Callee::Other),
     }
 }
 
-/// The function is called, if there is one.
-fn call_closure(
+/// What a bound method runs, with its receiver.
+fn bound_callee(alloc: Global, receiver: &Value, method: &Method) -> Result<Callee, NoMemory>
+    ensures { IfOk result (λ callee. (number : ℕ) (arguments : List Value) → calls_bound receiver.now arguments method.now ≡ calls_callee number callee arguments) }
+{
+    let receiver = receiver.copy(alloc)?;
+    match method {
+        Method::Function(function) => Ok(Callee::Method {
+            receiver,
+            function: function.copy(alloc)?,
+        }),
+        Method::Builtin(method) => Ok(Callee::Builtin {
+            receiver,
+            method: *method,
+        }),
+    }
+}
+
+/// What the cell of this number is, is called.
+fn call_callee(
     alloc: Global,
     stack: &mut Vec<Frame>,
     store: &mut Store,
     texts: &[Program],
-    closure: Option<Closure>,
-    arguments: &[Value],
+    number: u32,
+    callee: Callee,
+    arguments: Items<Value>,
 ) -> Result<Next, NoMemory>
-    ensures means { IfOk result (λ next. (fixed : State) → MeansOver (stated fixed store.old.cells texts.now) (stated fixed store.new.cells texts.now) stack.new.items next (calls_closure closure arguments.now) stack.old.items) }
+    ensures means { IfOk result (λ next. (fixed : State) → MeansOver (stated fixed store.old.cells texts.now) (stated fixed store.new.cells texts.now) stack.new.items next (calls_callee number callee arguments) stack.old.items) }
     ensures light { IfOk result (λ next. IsLight stack.new.items next stack.old.items) }
 {
-    match closure {
-        Some(closure) => call_function(alloc, stack, store, texts, closure, arguments),
-        None => refuse(alloc, "not callable"),
+    match callee {
+        Callee::Function(closure) => {
+            call_function(alloc, stack, store, texts, closure, arguments.as_slice())
+        }
+        Callee::Method { receiver, function } => {
+            call_bound(alloc, receiver, function, arguments)
+        }
+        Callee::Builtin { receiver, method } => call_method(
+            alloc,
+            stack,
+            store,
+            &receiver,
+            method,
+            arguments.as_slice(),
+        ),
+        Callee::Class => make_instance(alloc, stack, store, number, arguments),
+        Callee::Other => refuse(alloc, "not callable"),
     }
+}
+
+/// A bound function is called with the receiver first, by an operation of its own (Python Language Reference, "Instance
+/// methods").
+fn call_bound(
+    alloc: Global,
+    receiver: Value,
+    function: Value,
+    arguments: Items<Value>,
+) -> Result<Next, NoMemory>
+    ensures means { IfOk result (λ next. (stack : List Frame) → Means stack next (asked (operation.Call function (receiver ∷ arguments))) stack) }
+    ensures light { IfOk result (λ next. (stack : List Frame) → IsLight stack next stack) }
+{
+    let mut all = Items::new(alloc);
+    all.push(receiver)?;
+    all.append(arguments)?;
+    Ok(operate(Operation::Call {
+        callee: function,
+        arguments: all,
+    }))
 }
 
 /// A function is called. `Leave(NotYet)` where its text has no function of its number.

@@ -1,4 +1,4 @@
-//! Calls of functions: how a function is made, and how its call begins and ends.
+//! Calls of functions, bound methods and classes: how a function is made, and how its call begins and ends.
 #![tactic(auto)]
 
 mod bodies;

@@ -19,7 +19,7 @@ use sqlite_items::Items;
 use std::alloc::Global;
 
 /// The items go behind those of a list. `Leave(Size)` past 1,048,576 items.
-pub(crate) fn extend(
+pub fn extend(
     alloc: Global,
     store: &mut Store,
     list: u32,

@@ -1,4 +1,4 @@
-ghost use Rattle.std.specs.Prelude.{◌≡◌, ◌==◌, IfOk, List, length};
+ghost use Rattle.std.specs.Prelude.{◌≡◌, ◌==◌, IfOk, List, chars, length};
 ghost use Rattle.rp_base.specs.Values.{tuple_of};
 ghost use Rattle.eval_frames.specs.declared.frame.Frame.{Frame};
 ghost use Rattle.eval_frames.specs.declared.loop_frames.Draining.TheVariants as draining;
@@ -9,19 +9,21 @@ ghost use Rattle.language_rules.specs.AtOnce.{stated};
 ghost use Rattle.language_rules.specs.Draining.{counted};
 ghost use Rattle.language_rules.specs.States.{State};
 ghost use Rattle.language_rules.specs.Targets.{assigns_each};
+ghost use Rattle.language_rules.specs.TextMethods.{all_characters, join_rule};
 
 use crate::extending::extend;
 use crate::reversing::{numbers_reversed, values_reversed};
 use builtin_functions::{best_of_items, sum_of_items};
-use eval_exprs::values_of;
+use eval_exprs::{sorted_list, values_of};
 use eval_frames::{Draining, Frame, Next, computed, fail};
 use eval_targets::assign_each;
 use object_operations::{Completion, Env};
 use py_ast::{Builtin, Program};
 use py_store::{Cell, Store};
-use rp_base::{Beyond, CmpOp, ExcKind, NoMemory, TupleEnd, Value, make_tuple};
+use rp_base::{Beyond, CmpOp, ExcKind, NoMemory, OpEnd, TupleEnd, Value, make_tuple};
 use sqlite_items::Items;
 use std::alloc::Global;
+use text_methods::join;
 
 /// What is made of all items.
 pub(crate) fn finish(
@@ -41,7 +43,20 @@ pub(crate) fn finish(
             unpack(alloc, stack, store, texts, env, targets, items)
         }
         Draining::Extend { list, is_answer } => extend(alloc, store, list, is_answer, items),
-        Draining::Join(_) => Err(NoMemory),
+        Draining::Join(text) => join_items(alloc, text.as_str(), items.as_slice()),
+    }
+}
+
+/// The items are joined by a text.
+pub fn join_items(alloc: Global, text: &str, items: &[Value]) -> Result<Next, NoMemory>
+    ensures means { IfOk result (λ next. (stack : List Frame) → Means stack next (join_rule (chars text.now) (all_characters items.now)) stack) }
+    ensures light { IfOk result (λ next. (stack : List Frame) → IsLight stack next stack) }
+{
+    match join(alloc, text, items) {
+        Ok(value) => Ok(Next::Give(Completion::Gives(value))),
+        Err(OpEnd::Raise(raised)) => Ok(Next::Give(Completion::Raises(raised))),
+        Err(OpEnd::Beyond(beyond)) => Ok(Next::Leave(beyond)),
+        Err(OpEnd::NoMemory) => Err(NoMemory),
     }
 }
 
@@ -56,7 +71,7 @@ fn call_on_items(alloc: Global, function: Builtin, items: Items<Value>) -> Resul
         Builtin::Min => computed(best_of_items(alloc, CmpOp::Lt, items.as_slice())),
         Builtin::Max => computed(best_of_items(alloc, CmpOp::Gt, items.as_slice())),
         Builtin::Sum => computed(sum_of_items(alloc, items.as_slice())),
-        Builtin::Sorted => Err(NoMemory),
+        Builtin::Sorted => sorted_list(alloc, items.as_slice()),
         Builtin::Print => Ok(Next::Leave(Beyond::NotYet)),
         Builtin::Len => Ok(Next::Leave(Beyond::NotYet)),
         Builtin::Str => Ok(Next::Leave(Beyond::NotYet)),

@@ -19,7 +19,7 @@ use rp_base::{Beyond, ExcKind, NoMemory, Raised, Value};
 use sqlite_items::Items;
 use std::alloc::Global;
 
-/// What waits while a collection is gone over goes on with an end. These are not built yet: what sorts, and what joins.
+/// What waits while a collection is gone over goes on with an end.
 pub fn give_drain(
     alloc: Global,
     stack: &mut Vec<Frame>,

@@ -8,4 +8,6 @@ mod going_over;
 mod limits;
 mod reversing;
 
+pub use extending::extend;
+pub use finishing::join_items;
 pub use going_over::give_drain;

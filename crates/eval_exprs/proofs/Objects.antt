@@ -148,7 +148,7 @@ gone_over_asked r now before f v collection o e h =
     (ap (λ (c : Collection). operates_over o (frame.Drain (drain_frame.Iterator c (draining.Builtin f)))) e
     ∙ ap (λ (x : Operation). operates_over x (frame.Drain (drain_frame.Iterator (collection_for f) (draining.Builtin f)))) h)
 
-drains_over : (over : RuleTree) (k : Option Kind) → is_gone_over k ≡ true → drains_kind over k ≡ over
+pub drains_over : (over : RuleTree) (k : Option Kind) → is_gone_over k ≡ true → drains_kind over k ≡ over
 drains_over over (Some kind.List) h = refl
 drains_over over (Some kind.Dict) h = refl
 drains_over over (Some kind.Range) h = refl

@@ -11,7 +11,7 @@ ghost use Rattle.language_rules.specs.Kinds.{is_reference};
 ghost use Rattle.eval_exprs.specs.Steps.{IsOnlyReference, MeansAt, collection_for, drains_object, is_gone_over, takes_no_object};
 
 use crate::kinds::kind_of;
-use crate::making::{dict, list, range};
+use crate::making::{dict, list, range, sorted};
 use crate::testing::ask_truth;
 use builtin_functions::builtin;
 use eval_frames::{
@@ -25,8 +25,8 @@ use rp_base::{Beyond, ExcKind, Kind, NoMemory, Value};
 use sqlite_items::Items;
 use std::alloc::Global;
 
-/// A builtin function with its arguments (Python Library Reference, "Built-in Functions"). `sorted`, and the text of a
-/// tuple that holds a reference, are not built yet.
+/// A builtin function with its arguments (Python Library Reference, "Built-in Functions"). The text of a tuple that holds
+/// a reference is not built yet.
 pub(crate) fn call_function(
     alloc: Global,
     stack: &mut Vec<Frame>,
@@ -43,7 +43,7 @@ pub(crate) fn call_function(
     }
 }
 
-/// A builtin function that asks no object. `sorted` is not built yet.
+/// A builtin function that asks no object.
 fn call_at_hand(alloc: Global, function: Builtin, arguments: &[Value]) -> Result<Next, NoMemory>
     ensures means { IfOk result (λ next. (stack : List Frame) → Means stack next (builtin_rule function arguments.now) stack) }
     ensures light { IfOk result (λ next. (stack : List Frame) → IsLight stack next stack) }
@@ -52,6 +52,7 @@ fn call_at_hand(alloc: Global, function: Builtin, arguments: &[Value]) -> Result
         Builtin::List => list(alloc, arguments),
         Builtin::Dict => dict(alloc, arguments),
         Builtin::Range => range(alloc, arguments),
+        Builtin::Sorted => sorted(alloc, arguments),
         _ => computed(builtin(alloc, function, arguments)),
     }
 }
@@ -186,7 +187,7 @@ fn drain(
 }
 
 /// Whether an object of this kind is gone over.
-fn is_gone_over(kind: Option<Kind>) -> bool
+pub fn is_gone_over(kind: Option<Kind>) -> bool
     ensures { result ≡ is_gone_over kind }
 {
     match kind {
@@ -227,7 +228,7 @@ fn collection_for(function: Builtin) -> Collection
 }
 
 /// An object of any other kind is not gone over.
-fn refuse_kind(alloc: Global, kind: Option<Kind>) -> Result<Next, NoMemory>
+pub fn refuse_kind(alloc: Global, kind: Option<Kind>) -> Result<Next, NoMemory>
     requires { is_gone_over kind ≡ false }
     ensures means { IfOk result (λ next. (over : RuleTree) (stack : List Frame) → Means stack next (drains_kind over kind) stack) }
     ensures light { IfOk result (λ next. (stack : List Frame) → IsLight stack next stack) }

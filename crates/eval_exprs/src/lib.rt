@@ -19,10 +19,11 @@ mod raising;
 mod testing;
 
 pub use begin::begin_expression;
+pub use builtins::{is_gone_over, refuse_kind};
 pub use chains::{begin_and, begin_or};
 pub use comparing::{ask_comparison, give_comparison};
 pub use decide::{decide_and, decide_bool, decide_conditional, decide_link, decide_not, decide_or};
 pub use give::give_expression;
-pub use making::values_of;
+pub use making::{sorted_list, values_of};
 pub use operating::give_operation;
 pub use testing::{ask_truth, told_truth};

@@ -6,12 +6,14 @@ ghost use Rattle.eval_frames.specs.Meaning.{IsLight, Means};
 ghost use Rattle.language_rules.specs.Builtins.{builtin_rule};
 ghost use Rattle.language_rules.specs.Conversions.{new_range, only_ints, range_over};
 ghost use Rattle.language_rules.specs.Displays.{entries_with, new_dict, new_list};
+ghost use Rattle.language_rules.specs.Ordering.{gives_sorted};
 ghost use Rattle.eval_exprs.specs.Making.{IsPut, plain_of, the_int};
 
 use builtin_functions::items_at_hand;
 use eval_frames::{Next, fail, is_reference};
+use item_sorting::sorted_items;
 use py_store::{Cell, Entries, Values};
-use rp_base::{Beyond, ExcKind, NoMemory, Plain, Value};
+use rp_base::{Beyond, ExcKind, NoMemory, OpEnd, Plain, Value};
 use sqlite_items::Items;
 use std::alloc::Global;
 
@@ -141,6 +143,45 @@ fn list_at_hand(alloc: Global, value: &Value) -> Result<Next, NoMemory>
     match items_at_hand(alloc, value)? {
         Some(items) => Ok(Next::Make(Cell::List(items))),
         None => fail(alloc, ExcKind::TypeError, "not iterable"),
+    }
+}
+
+/// `sorted` of what has its items at hand.
+#[tactic(auto, unfolding(language_rules::specs::Builtins::builtin_rule))]
+pub(crate) fn sorted(alloc: Global, arguments: &[Value]) -> Result<Next, NoMemory>
+    ensures means { IfOk result (λ next. (stack : List Frame) → Means stack next (builtin_rule builtin.Sorted arguments.now) stack) }
+    ensures light { IfOk result (λ next. (stack : List Frame) → IsLight stack next stack) }
+{
+    match arguments {
+        [value] => sorted_at_hand(alloc, value),
+        _ => Ok(Next::Leave(Beyond::Arguments)),
+    }
+}
+
+#[tactic(auto, unfolding(language_rules::specs::Builtins::builtin_rule))]
+fn sorted_at_hand(alloc: Global, value: &Value) -> Result<Next, NoMemory>
+    ensures means { IfOk result (λ next. (stack : List Frame) → Means stack next (builtin_rule builtin.Sorted (value.now ∷ [])) stack) }
+    ensures light { IfOk result (λ next. (stack : List Frame) → IsLight stack next stack) }
+{
+    if is_reference(value) {
+        return Err(NoMemory);
+    }
+    match items_at_hand(alloc, value)? {
+        Some(items) => sorted_list(alloc, items.as_slice()),
+        None => fail(alloc, ExcKind::TypeError, "not iterable"),
+    }
+}
+
+/// A new list of these items in order. `Leave(Order)` where they are neither all numbers nor all texts.
+pub fn sorted_list(alloc: Global, items: &[Value]) -> Result<Next, NoMemory>
+    ensures means { IfOk result (λ next. (stack : List Frame) → Means stack next (gives_sorted items.now) stack) }
+    ensures light { IfOk result (λ next. (stack : List Frame) → IsLight stack next stack) }
+{
+    match sorted_items(alloc, items) {
+        Ok(values) => Ok(Next::Make(Cell::List(values))),
+        Err(OpEnd::Beyond(beyond)) => Ok(Next::Leave(beyond)),
+        Err(OpEnd::NoMemory) => Err(NoMemory),
+        Err(OpEnd::Raise(_)) => unreachable!(),
     }
 }
 

@@ -2,5 +2,11 @@
 #![tactic(auto)]
 
 mod calling;
+mod dicts;
+mod draining;
+mod lists;
+#[cfg(test)]
+mod tests;
+mod texts;
 
 pub use calling::call_method;

@@ -1,4 +1,5 @@
 pub mod Added
 pub mod Compared
+pub mod Places
 pub mod Searched
 pub mod Values

@@ -2,7 +2,7 @@ ghost use Rattle.std.specs.Prelude.{◌≡◌, ◌+◌, ◌*◌, ◌≤◌, ◌�
 ghost use Rattle.py_ast.specs.declared.program.Program.{Program};
 ghost use Rattle.eval_frames.specs.declared.frame.Frame.{Frame};
 ghost use Rattle.eval_frames.specs.ListFrames.{through_search};
-ghost use Rattle.eval_frames.specs.Meaning.{IsLight, Means, MeansIn, load};
+ghost use Rattle.eval_frames.specs.Meaning.{IsLight, Means, MeansIn, MeansOver, load};
 ghost use Rattle.language_rules.specs.AtOnce.{stated};
 ghost use Rattle.language_rules.specs.Answers.{gives};
 ghost use Rattle.language_rules.specs.Codes.{Completion};
@@ -16,6 +16,7 @@ ghost use Rattle.eval_searching.specs.Searched.{item_asked};
 use crate::asking::{ask_found, one_refers};
 use crate::dicts::give_value;
 use crate::lists::{Searched, search_behind, search_from};
+use crate::places::{give_index, give_removed};
 use eval_exprs::told_truth;
 use eval_frames::{Frame, Next, SearchFrame};
 use object_operations::Completion;
@@ -82,7 +83,7 @@ pub(crate) fn give_bool(holds: bool) -> Next
 }
 
 /// The item of a list at a position is compared with the value.
-fn ask_item(
+pub(crate) fn ask_item(
     alloc: Global,
     stack: &mut Vec<Frame>,
     list: u32,
@@ -141,11 +142,11 @@ fn ask_referring(
 pub fn give_search(
     alloc: Global,
     stack: &mut Vec<Frame>,
-    store: &Store,
+    store: &mut Store,
     frame: SearchFrame,
     completion: Completion,
 ) -> Result<Next, NoMemory>
-    ensures means { IfOk result (λ n. (fixed : State) (texts : List Program) → MeansIn (stated fixed store.now.cells texts) stack.new.items n (through_search frame completion) stack.old.items) }
+    ensures means { IfOk result (λ n. (fixed : State) (texts : List Program) → MeansOver (stated fixed store.old.cells texts) (stated fixed store.new.cells texts) stack.new.items n (through_search frame completion) stack.old.items) }
     ensures light { IfOk result (λ n. IsLight stack.new.items n stack.old.items) }
 {
     match frame {
@@ -163,7 +164,8 @@ pub fn give_search(
             alloc, stack, store, dict, shape, position, wanted, completion,
         ),
         SearchFrame::Found => Ok(give_whether(completion)),
-        SearchFrame::Index | SearchFrame::Remove { .. } => Err(NoMemory),
+        SearchFrame::Index => give_index(alloc, completion),
+        SearchFrame::Remove { list } => give_removed(alloc, store, list, completion),
     }
 }
 
