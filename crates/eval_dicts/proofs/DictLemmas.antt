@@ -12,6 +12,7 @@ use Rattle.py_store.specs.declared.cell.Cell.TheVariants as cell
 use Rattle.py_store.specs.declared.cell.Which.{Which}
 use Rattle.side_trees.specs.Trees.{bind}
 use Rattle.language_rules.specs.AtOnce.{stated}
+use Rattle.language_rules.specs.Draining.{not_iterable}
 use Rattle.language_rules.specs.Going.{RuleTree, on_cell, reads_cell}
 use Rattle.language_rules.specs.Operators.{unsupported}
 use Rattle.language_rules.specs.Perform.{special_of_cell}
@@ -126,3 +127,7 @@ pub with_two : (cells : List Cell) (operator : Special) (number dict : ℕ) (whi
 with_two cells operator number dict which vs (Ok n) stack l b h = λ fixed texts.
     in_state (stated fixed cells texts) (special_of_cell operator number vs (cell.View dict which)) n stack stack (two_there operator number dict which vs n stack l b h)
 with_two cells operator number dict which vs (Err e) stack l b h = h
+
+pub no_next : (n : ℕ) (vs : List Value) (entries : EntryList) (shape : ℕ) → special_of_cell special.Next n vs (cell.Dict entries shape) ≡ alone not_iterable vs
+no_next n [] entries shape = refl
+no_next n (v ∷ vs) entries shape = refl

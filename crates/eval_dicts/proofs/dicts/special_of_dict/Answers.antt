@@ -2,13 +2,14 @@ use Rattle.std.proofs.Common.{IfOk, sym, subst}
 use Rattle.object_operations.specs.declared.special.Special.{Special}
 use Rattle.object_operations.specs.declared.special.Special.TheVariants as special
 use Rattle.rp_base.specs.declared.value.Value.TheVariants as value
+use Rattle.language_rules.specs.Draining.{not_iterable}
 use Rattle.language_rules.specs.Operators.{unsupported}
 use Rattle.language_rules.specs.Perform.{special_rule}
 use Rattle.eval_ranges.proofs.CellSteps.{Over}
 use Rattle.eval_ranges.proofs.SpecialLemmas.{Within}
 use Rattle.eval_lists.proofs.ListLemmas.{changed_on, read_on}
 use Rattle.eval_dicts.specs.Arguments.{alone, with_one}
-use Rattle.eval_dicts.proofs.DictLemmas.{dict_told, no_add, no_floordiv, no_iadd, no_mod, no_mul, no_negative}
+use Rattle.eval_dicts.proofs.DictLemmas.{dict_told, no_add, no_floordiv, no_iadd, no_mod, no_mul, no_negative, no_next}
 use Rattle.eval_dicts.proofs.dicts.special_of_dict.Goals as goal
 
 pub returns-in-SetItem-clause-means : goal.returns-in-SetItem-clause-means
@@ -40,6 +41,10 @@ pub returns-in-Contains-clause-means : goal.returns-in-Contains-clause-means
 returns-in-Contains-clause-means c =
     subst (λ (s : Special). IfOk c.answered-in-Contains.result (Within c.args.store.now.cells (special_rule s (value.Own c.args.number) c.args.arguments.now))) (sym c.in-Contains.is)
     (read_on c.args.store.now.cells (special_rule special.Contains (value.Own c.args.number) c.args.arguments.now) c.read_dict-in-Contains.result c.answered-in-Contains.result c.read_dict-in-Contains.ensures c.answered-in-Contains.ensures.means)
+
+pub returns-in-Next-clause-means : goal.returns-in-Next-clause-means
+returns-in-Next-clause-means c =
+    dict_told c.args.store.now.cells c.args.number c.args.arguments.now c.args.special special.Next (alone not_iterable c.args.arguments.now) c.refuse_alone.result c.requires c.in-Next.is (no_next c.args.number c.args.arguments.now) c.refuse_alone.ensures.means
 
 pub returns-in-Neg-clause-means : goal.returns-in-Neg-clause-means
 returns-in-Neg-clause-means c =
