@@ -5,8 +5,6 @@ mod calling;
 mod dicts;
 mod draining;
 mod lists;
-#[cfg(test)]
-mod tests;
 mod texts;
 
 pub use calling::call_method;
