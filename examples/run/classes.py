@@ -10,6 +10,6 @@ class Shape:
 class Square(Shape):
     sides = 4
 
-shapes = [Square("s"), (Square("t"), [Shape("p")])]
+shapes = [Square("s"), [Square("t"), Shape("p")]]
 shapes.append(Square("s") == Square("u"))
 print(shapes, ",".join(sorted(["b", "a"])))

