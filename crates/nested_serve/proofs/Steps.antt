@@ -1,10 +1,13 @@
 -- The steps of a machine, by those of its parts.
-use Rattle.std.proofs.Common.{◌≡◌, ◌+◌, ◌*◌, ◌≤◌, arith, ℕ, suc, Bool, List, length, reverse, slice_get, Option, Result, Ok, Err, IfOk, sym, subst, ◌∙◌, ap}
+use Rattle.std.proofs.Common.{◌≡◌, ◌+◌, ◌*◌, ◌≤◌, arith, ℕ, suc, Bool, List, length, reverse, slice_get, Option, Some, Result, Ok, Err, IfOk, sym, subst, ◌∙◌, ap}
 use Rattle.rp_base.specs.declared.ends.NoMemory.{NoMemory}
 use Rattle.rp_base.specs.declared.value.Value.{Value}
+use Rattle.py_ast.specs.declared.name.Name.{Name}
 use Rattle.py_ast.specs.declared.node.Node.{Node}
+use Rattle.py_ast.specs.declared.node.Node.TheVariants as node
 use Rattle.py_ast.specs.declared.program.Program.{Program}
 use Rattle.py_ast.specs.declared.statement.Statement.{Statement}
+use Rattle.py_ast.specs.declared.statement.Statement.TheVariants as statement
 use Rattle.py_store.specs.Cells.{Cells}
 use Rattle.py_store.specs.declared.cell.Cell.{Cell}
 use Rattle.object_operations.specs.declared.operation.Operation.{Operation}
@@ -12,6 +15,7 @@ use Rattle.side_trees.specs.Trees.{Return, bind}
 use Rattle.eval_at_once.specs.Evaluated.{ComesTo}
 use Rattle.language_rules.specs.Answers.{evaluated}
 use Rattle.language_rules.specs.AtOnce.{stated}
+use Rattle.language_rules.specs.Classes.{class_rule}
 use Rattle.language_rules.specs.Codes.{Completion, Env, Gives}
 use Rattle.language_rules.specs.Going.{RuleTree, on_value}
 use Rattle.language_rules.specs.Nodes.{node_rule, rule_of}
@@ -90,6 +94,24 @@ lent_classes (Ok n) before now cells cells' texts as_lent handled made made' pri
     let k : (s : State) → MeansOver (classed s cells texts made) (classed s cells' texts made') now n t before = subst (λ (ts : List Program). (s : State) → MeansOver (classed s cells ts made) (classed s cells' ts made') now n t before) p h in
     k (record fixed { printed = length printed; handled = reverse handled; printing = reverse printing }) units printed
 lent_classes (Err e) before now cells cells' texts as_lent handled made made' printing printed t p h = tt
+
+-- a class statement by its node
+pub class_node : (r : Result Next NoMemory) (before now : List Frame) (cells cells' : List Cell) (texts as_lent : List Program) (handled : List Handling) (made made' : List MadeClass) (printing printed : List ℕ) (env : Env) (number : ℕ) (name : Name) (base : Option Name) (body : ℕ) → as_lent ≡ texts
+    → node_of (slice_get as_lent env.text) number ≡ Some (node.Statement (statement.Class name base body))
+    → IfOk r (λ n. (fixed : State) → MeansOver (classed fixed cells as_lent made) (classed fixed cells' as_lent made') now n (class_rule env name.text base body) before)
+    → IfOk r (λ n. (fixed : State) (units : ℕ) → runs units (bind (node_rule env number) (rest (reverse before))) (counting fixed cells texts handled made printing printed) printed ≡ runs units (meant now n) (counting fixed cells' texts handled made' printing printed) printed)
+class_node (Ok n) before now cells cells' texts as_lent handled made made' printing printed env number name base body p there h = λ fixed units.
+    let at : node_of (slice_get texts env.text) number ≡ Some (node.Statement (statement.Class name base body)) = subst (λ (ts : List Program). node_of (slice_get ts env.text) number ≡ Some (node.Statement (statement.Class name base body))) p there in
+    ap (λ (o : Option Node). runs units (bind (rule_of env o) (rest (reverse before))) (counting fixed cells texts handled made printing printed) printed) at
+    ∙ lent_classes (Ok n) before now cells cells' texts as_lent handled made made' printing printed (class_rule env name.text base body) p h fixed units
+class_node (Err e) before now cells cells' texts as_lent handled made made' printing printed env number name base body p there h = tt
+
+-- what looks at the texts alone, by another name
+pub lent_texts : (r : Result Next NoMemory) (before now : List Frame) (cells : List Cell) (texts as_lent : List Program) (handled : List Handling) (classes : List MadeClass) (printing printed : List ℕ) (t : RuleTree) → as_lent ≡ texts
+    → IfOk r (λ n. (fixed : State) (others : List Cell) → MeansIn (stated fixed others as_lent) now n t before) → IfOk r (λ n. Went before cells texts handled classes printing printed t now cells handled printing printed n)
+lent_texts (Ok n) before now cells texts as_lent handled classes printing printed t p h =
+    lent (Ok n) before now cells cells texts as_lent handled classes printing printed t p (λ fixed. h fixed cells)
+lent_texts (Err e) before now cells texts as_lent handled classes printing printed t p h = tt
 
 -- an operation by what it is
 pub at_operation : (r : Result Next NoMemory) (before now : List Frame) (cells cells' : List Cell) (texts : List Program) (handled handled' : List Handling) (classes : List MadeClass) (printing printing' printed printed' : List ℕ) (o as_told : Operation) → o ≡ as_told
@@ -235,8 +257,9 @@ printed_less before now n units h = omega (arith, h)
 pub carried_out : (m : Machine) (store : Cells) (env : Env) (number units left : ℕ) (a : Completion) (as_lent : List Program) → as_lent ≡ m.texts.items
     → ((fixed : State) → ComesTo (evaluated env number) (stated fixed m.store.cells as_lent) units a (stated fixed store.cells as_lent) left) → left + 1 ≤ units
     → ((fixed : State) → course fixed m (next.Enter env number) units ≡ course fixed (record m { store = store }) (next.Give a) left) × (ahead (record m { store = store }) (next.Give a) left + 1 ≤ ahead m (next.Enter env number) units)
-carried_out m store env number units left a as_lent p comes less =
-    ((λ fixed.
-        let k : (s : State) → ComesTo (evaluated env number) (stated s m.store.cells m.texts.items) units a (stated s store.cells m.texts.items) left = subst (λ (ts : List Program). (s : State) → ComesTo (evaluated env number) (stated s m.store.cells ts) units a (stated s store.cells ts) left) p comes in
-        k (record fixed { printed = length (printed_by m); handled = reverse m.handled; printing = reverse m.printing; classes = reverse m.classes }) (rest (reverse m.stack.items)) (printed_by m)),
-     omega (arith, less))
+carried_out m store env number units left a as_lent p comes less = (
+  (λ fixed.
+      let k : (s : State) → ComesTo (evaluated env number) (stated s m.store.cells m.texts.items) units a (stated s store.cells m.texts.items) left = subst (λ (ts : List Program). (s : State) → ComesTo (evaluated env number) (stated s m.store.cells ts) units a (stated s store.cells ts) left) p comes in
+      k (record fixed { printed = length (printed_by m); handled = reverse m.handled; printing = reverse m.printing; classes = reverse m.classes }) (rest (reverse m.stack.items)) (printed_by m)),
+  omega (arith, less),
+)

@@ -19,7 +19,15 @@ pub(crate) fn carry_out(
     ensures { IsCarriedOut machine.old env number fuel.old result machine.new fuel.new }
 {
     let units = *fuel;
-    match evaluate(alloc, &machine.store, &machine.texts, env, number, units, DEPTH) {
+    match evaluate(
+        alloc,
+        &machine.store,
+        &machine.texts,
+        env,
+        number,
+        units,
+        DEPTH,
+    ) {
         Some(evaluated) => {
             *fuel = evaluated.left;
             Some(Next::Give(Completion::Gives(evaluated.value)))
@@ -37,7 +45,14 @@ fn execute_at_once(
 ) -> Option<Next>
     ensures { IsCarriedOut machine.old env number fuel.old result machine.new fuel.new }
 {
-    let left = execute(alloc, &mut machine.store, &machine.texts, env, number, *fuel)?;
+    let left = execute(
+        alloc,
+        &mut machine.store,
+        &machine.texts,
+        env,
+        number,
+        *fuel,
+    )?;
     *fuel = left;
     Some(Next::Give(Completion::Gives(Value::Plain(Plain::None))))
 }

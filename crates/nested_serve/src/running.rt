@@ -9,8 +9,8 @@ ghost use Rattle.language_rules.specs.Going.{on_value};
 ghost use Rattle.language_rules.specs.Nodes.{member_node_rule, node_rule};
 ghost use Rattle.nested_serve.specs.Machines.{Advances, GoesOn, Halts};
 
-use crate::entering::enter;
 use crate::at_once::carry_out;
+use crate::entering::enter;
 use crate::giving::{give, value_of};
 use crate::machine::{Halt, Machine};
 use crate::performing::{advance_making, advance_performing};

@@ -1,7 +1,7 @@
 use Rattle.std.proofs.Common.{string_bytes}
 use Rattle.language_rules.specs.Nodes.{node_rule}
 use Rattle.nested_serve.proofs.Steps.{lent_both}
-use Rattle.nested_serve.proofs.running.begin_node.Goals as goal
+use Rattle.nested_serve.proofs.running.begin_plain_node.Goals as goal
 
 pub returns-clause-means : goal.returns-clause-means
 returns-clause-means c =
