@@ -1,3 +1,4 @@
 pub mod AloneRuns
 pub mod Beginning
 pub mod Steps
+pub mod ClassSteps

@@ -1,5 +1,6 @@
 use Rattle.eval_frames.specs.declared.frame.Frame.TheVariants as frame
 use Rattle.nested_serve.proofs.Steps.{at_frame_anywhere, at_frame_cells, at_frame_over}
+use Rattle.nested_serve.proofs.ClassSteps.{at_frame_over_cells}
 use Rattle.nested_serve.proofs.giving.give.Goals as goal
 
 pub returns-in-While-clause-means : goal.returns-in-While-clause-means
@@ -21,7 +22,7 @@ pub returns-in-Drain-clause-means : goal.returns-in-Drain-clause-means
 returns-in-Drain-clause-means c = at_frame_over c.give_drain.result c.give_drain.new.stack.items c.args.stack.now.items c.args.store.now.cells c.give_drain.new.store.cells c.args.texts.now c.args.frame (frame.Drain c.in-Drain.frame) c.args.completion c.in-Drain.is c.give_drain.ensures.means
 
 pub returns-in-Search-clause-means : goal.returns-in-Search-clause-means
-returns-in-Search-clause-means c = at_frame_over c.give_search.result c.give_search.new.stack.items c.args.stack.now.items c.args.store.now.cells c.give_search.new.store.cells c.args.texts.now c.args.frame (frame.Search c.in-Search.frame) c.args.completion c.in-Search.is c.give_search.ensures.means
+returns-in-Search-clause-means c = at_frame_over_cells c.give_search.result c.give_search.new.stack.items c.args.stack.now.items c.args.store.now.cells c.give_search.new.store.cells c.args.texts.now c.args.frame (frame.Search c.in-Search.frame) c.args.completion c.in-Search.is c.give_search.ensures.means
 
 pub returns-in-Equality-clause-means : goal.returns-in-Equality-clause-means
 returns-in-Equality-clause-means c = at_frame_cells c.give_equality.result c.give_equality.new.stack.items c.args.stack.now.items c.args.store.now.cells c.args.texts.now c.args.frame (frame.Equality c.in-Equality.frame) c.args.completion c.in-Equality.is c.give_equality.ensures.means
