@@ -58,7 +58,9 @@ pub enum Decision {
     /// The truth itself is the value.
     Bool,
     /// Whether all pairs from the next on are equal too.
-    Pairs { waiting: Items<ValuePair> },
+    Pairs {
+        waiting: Items<ValuePair>,
+    },
     /// Whether a value is found among the items from the next on.
     Found {
         wanted: Value,

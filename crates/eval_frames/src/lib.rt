@@ -22,12 +22,10 @@ pub use enter::enter_over;
 pub use frame::{Decision, ExpressionFrame, Frame, Gathering, StatementFrame, ValuePair};
 pub use handler_frame::{HandlerFrame, HandlerReading};
 pub use laws::{
-    a_loop_tests_again, a_step_behind_another_waits, code_between_goes_on,
-    code_that_goes_on_waits, what_waits_is_pushed,
+    a_loop_tests_again, a_step_behind_another_waits, code_between_goes_on, code_that_goes_on_waits,
+    what_waits_is_pushed,
 };
-pub use list_frames::{
-    AdditionFrame, EqualityFrame, ListPair, SearchFrame, TextFrame, TupleLevel,
-};
+pub use list_frames::{AdditionFrame, EqualityFrame, ListPair, SearchFrame, TextFrame, TupleLevel};
 pub use loop_frames::{Collection, DrainFrame, Draining, ForFrame};
 pub use method_frame::MethodFrame;
 pub use next::{Next, answered, computed};

@@ -22,7 +22,9 @@ pub enum SearchFrame {
     /// The position, which is the value.
     Index,
     /// The position of what is taken out of the list.
-    Remove { list: u32 },
+    Remove {
+        list: u32,
+    },
 }
 
 /// A list and another one, own or not, that are compared.
@@ -100,7 +102,9 @@ pub enum TextFrame {
         made: Text,
     },
     /// The text of an item of a tuple that holds objects, within the tuples around it, the innermost last.
-    Tuple { levels: Items<TupleLevel> },
+    Tuple {
+        levels: Items<TupleLevel>,
+    },
     /// The whole text.
     End,
 }

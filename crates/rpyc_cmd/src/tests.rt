@@ -437,12 +437,7 @@ fn scripts_alone(rt: HostRuntime) -> Result<(), Fail> {
             Status::Beyond,
             "A 0\nend beyond CyclicRepr\nunits 14\n",
         ),
-        (
-            CLASSES,
-            &[],
-            Status::Done,
-            "A 4\n7 5\nend done\nunits 43\n",
-        ),
+        (CLASSES, &[], Status::Done, "A 4\n7 5\nend done\nunits 43\n"),
         (
             SPECIALS,
             &[],
