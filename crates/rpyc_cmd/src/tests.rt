@@ -321,7 +321,7 @@ const GROWING: &[u8] =
 #[test]
 fn scripts_alone(rt: HostRuntime) -> Result<(), Fail> {
     let alloc = rt.alloc();
-    let runs: [Alone; 20] = [
+    let runs: [Alone; 23] = [
         (
             b"print(1)\n",
             &["--fuel", "2"],
