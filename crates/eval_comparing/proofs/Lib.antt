@@ -1,0 +1,4 @@
+pub mod LevelLaws
+pub mod Moving
+pub mod Operands
+pub mod PairLaws

@@ -4,3 +4,4 @@ pub mod Moving
 pub mod Objects
 pub mod Operands
 pub mod Shapes
+pub mod Tuples

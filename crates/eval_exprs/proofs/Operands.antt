@@ -1,226 +1,36 @@
--- Comparisons that ask an operand.
-use Rattle.std.proofs.Common.{◌≡◌, ℕ, Bool, true, false, ◌||◌, List, [], ◌∷◌, ◌++◌, map, reverse, Option, Some, None, Result, Ok, Err, IfOk, refl, sym, ◌∙◌, ap}
+-- Links of a chain.
+use Rattle.std.proofs.Common.{◌≡◌, List, [], ◌∷◌, ◌++◌, Bool, true, false, not, Option, Some, None, Result, Ok, Err, IfOk, reverse, refl, sym, ◌∙◌, ap, subst}
 use Rattle.std.proofs.lemmas.List.{reverse-append}
 use Rattle.rp_base.specs.declared.ends.NoMemory.{NoMemory}
-use Rattle.rp_base.specs.declared.identity.IdPack.{IdPack}
+use Rattle.rp_base.specs.declared.ends.OpEnd.{OpEnd}
+use Rattle.rp_base.specs.declared.ends.OpEnd.TheVariants as op_end
 use Rattle.rp_base.specs.declared.operators.CmpOp.{CmpOp}
-use Rattle.rp_base.specs.declared.operators.CmpOp.TheVariants as cmp
-use Rattle.rp_base.specs.declared.plain.Plain.{Plain}
-use Rattle.rp_base.specs.declared.plain.Plain.TheOpen.{Plain-F}
-use Rattle.rp_base.specs.declared.plain.Plain.TheVariants as plain
 use Rattle.rp_base.specs.declared.value.Value.{Value}
-use Rattle.rp_base.specs.declared.value.Value.TheVariants as value
-use Rattle.rp_base.specs.PlainLaws.{gather_tuple, look_tuple}
-use Rattle.rp_base.specs.PlainValues.{gather}
 use Rattle.py_ast.specs.declared.expression.Comparison.{Comparison}
 use Rattle.py_ast.specs.declared.expression.Comparison.TheVariants as comparison
 use Rattle.py_ast.specs.declared.expression.Link.{Link}
-use Rattle.object_operations.specs.declared.operation.Operation.{Operation}
-use Rattle.object_operations.specs.declared.operation.Operation.TheVariants as operation
+use Rattle.side_trees.proofs.BindLaw.{bind-bind}
 use Rattle.side_trees.specs.Trees.{bind}
+use Rattle.language_rules.specs.AtOnce.{Computes, ComputesUnlessAsked}
 use Rattle.language_rules.specs.Chains.{link_rule, links_from, opposite}
-use Rattle.language_rules.specs.Codes.{Breaks, Completion, Continues, Drained, Ends, Env, Give, Gives, Go, Raises, Returns, Step, Then}
-use Rattle.language_rules.specs.Comparing.{asks_operand, compare_step, equals_step, implemented, last_step, operands_step, others_compared, plain_against, plain_equal_step, plain_equals, swapped, tuple_items}
-use Rattle.language_rules.specs.Going.{RuleTree, and_value, asked_step, carry, on_value, operates, value_step}
-use Rattle.language_rules.specs.Kinds.{is_reference}
+use Rattle.language_rules.specs.Codes.{Completion, Env}
+use Rattle.language_rules.specs.Comparing.{compare_step}
+use Rattle.language_rules.specs.Going.{RuleTree, carry, on_value}
 use Rattle.language_rules.specs.PlainItems.{contains_in}
 use Rattle.language_rules.specs.Running.{runs}
-use Rattle.language_rules.specs.States.{State}
-use Rattle.language_rules.specs.StepLaws.{equals_tuple}
-use Rattle.eval_frames.proofs.Operating.{code_waits}
+use Rattle.language_rules.specs.Truth.{on_truth}
+use Rattle.value_operators.specs.Answering.{AsksOnly}
+use Rattle.eval_frames.specs.declared.frame.Decision.TheVariants as decision
 use Rattle.eval_frames.specs.declared.frame.Frame.{Frame}
-use Rattle.eval_frames.specs.declared.frame.Frame.TheVariants as frame
 use Rattle.eval_frames.specs.declared.next.Next.{Next}
-use Rattle.eval_frames.specs.declared.object_frames.ComparisonFrame.TheVariants as comparison_frame
-use Rattle.eval_frames.specs.Meaning.{Means, RunsAs, operates_over, rest}
-use Rattle.eval_exprs.proofs.Shapes.{each_plain, each_reference, each_value}
-use Rattle.eval_exprs.specs.Steps.{MeansAnywhere, is_not_implemented}
-
--- ---- where one operand is a reference, the operands are asked
-
-others : (o : CmpOp) (a b : Value) (items : Option (List Value)) → others_compared o a b items None ≡ operands_step o a b
-others o a b (Some xs) = refl
-others o a b None = refl
-
-by_own : (o : CmpOp) (n : ℕ) (b : Value) → compare_step o (value.Own n) b ≡ operands_step o (value.Own n) b
-unfolding equals_step
-by_own cmp.Eq n b = refl
-by_own cmp.Ne n b = refl
-by_own cmp.Lt n b = refl
-by_own cmp.Le n b = refl
-by_own cmp.Gt n b = refl
-by_own cmp.Ge n b = refl
-
-by_far : (o : CmpOp) (id : IdPack) (b : Value) → compare_step o (value.Proxy id) b ≡ operands_step o (value.Proxy id) b
-unfolding equals_step
-by_far cmp.Eq id b = refl
-by_far cmp.Ne id b = refl
-by_far cmp.Lt id b = refl
-by_far cmp.Le id b = refl
-by_far cmp.Gt id b = refl
-by_far cmp.Ge id b = refl
-
-abbrev ComparesPlain : Type 0
-ComparesPlain = Plain → Value → Step
-
-plain_tuple : (ps : List Plain) (b : Value) → plain_equals (plain.Tuple ps) b ≡ plain_against (Plain-F.Tuple (map (gather ComparesPlain plain_equal_step) ps)) (Plain-F.Tuple ps) (plain.Tuple ps) b
-unfolding plain_equals
-plain_tuple ps b =
-    ap (λ (f : ComparesPlain). f (plain.Tuple ps) b) (gather_tuple ComparesPlain plain_equal_step ps)
-    ∙ ap (λ (l : Plain-F Plain). plain_against (Plain-F.Tuple (map (gather ComparesPlain plain_equal_step) ps)) l (plain.Tuple ps) b) (look_tuple ps)
-
-abbrev PlainOwn : ℕ → Plain → Type 0
-PlainOwn m p = plain_equals p (value.Own m) ≡ operands_step cmp.Eq (value.Plain p) (value.Own m)
-
-plain_own : (m : ℕ) (p : Plain) → PlainOwn m p
-unfolding plain_equals
-plain_own m = each_plain (PlainOwn m) refl (λ b. refl) (λ n. refl) (λ t. refl) (λ t. refl) refl refl (λ ps. plain_tuple ps (value.Own m))
-
-plain_against_own : (m : ℕ) (p : Plain) (o : CmpOp) → compare_step o (value.Plain p) (value.Own m) ≡ operands_step o (value.Plain p) (value.Own m)
-unfolding equals_step
-plain_against_own m p cmp.Eq = plain_own m p
-plain_against_own m p cmp.Ne = others cmp.Ne (value.Plain p) (value.Own m) (tuple_items (value.Plain p))
-plain_against_own m p cmp.Lt = others cmp.Lt (value.Plain p) (value.Own m) (tuple_items (value.Plain p))
-plain_against_own m p cmp.Le = others cmp.Le (value.Plain p) (value.Own m) (tuple_items (value.Plain p))
-plain_against_own m p cmp.Gt = others cmp.Gt (value.Plain p) (value.Own m) (tuple_items (value.Plain p))
-plain_against_own m p cmp.Ge = others cmp.Ge (value.Plain p) (value.Own m) (tuple_items (value.Plain p))
-
-tuple_against_own : (m : ℕ) (vs : List Value) (o : CmpOp) → compare_step o (value.Tuple vs) (value.Own m) ≡ operands_step o (value.Tuple vs) (value.Own m)
-tuple_against_own m vs cmp.Eq = equals_tuple vs (value.Own m)
-tuple_against_own m vs cmp.Ne = others cmp.Ne (value.Tuple vs) (value.Own m) (tuple_items (value.Tuple vs))
-tuple_against_own m vs cmp.Lt = others cmp.Lt (value.Tuple vs) (value.Own m) (tuple_items (value.Tuple vs))
-tuple_against_own m vs cmp.Le = others cmp.Le (value.Tuple vs) (value.Own m) (tuple_items (value.Tuple vs))
-tuple_against_own m vs cmp.Gt = others cmp.Gt (value.Tuple vs) (value.Own m) (tuple_items (value.Tuple vs))
-tuple_against_own m vs cmp.Ge = others cmp.Ge (value.Tuple vs) (value.Own m) (tuple_items (value.Tuple vs))
-
-abbrev AgainstOwn : ℕ → Value → Type 0
-AgainstOwn m a = (o : CmpOp) → compare_step o a (value.Own m) ≡ operands_step o a (value.Own m)
-
-against_own : (m : ℕ) (a : Value) → AgainstOwn m a
-against_own m = each_value (AgainstOwn m) (plain_against_own m) (tuple_against_own m) (λ n o. by_own o n (value.Own m)) (λ id o. by_far o id (value.Own m))
-
-abbrev PlainFar : IdPack → Plain → Type 0
-PlainFar m p = plain_equals p (value.Proxy m) ≡ operands_step cmp.Eq (value.Plain p) (value.Proxy m)
-
-plain_far : (m : IdPack) (p : Plain) → PlainFar m p
-unfolding plain_equals
-plain_far m = each_plain (PlainFar m) refl (λ b. refl) (λ n. refl) (λ t. refl) (λ t. refl) refl refl (λ ps. plain_tuple ps (value.Proxy m))
-
-plain_against_far : (m : IdPack) (p : Plain) (o : CmpOp) → compare_step o (value.Plain p) (value.Proxy m) ≡ operands_step o (value.Plain p) (value.Proxy m)
-unfolding equals_step
-plain_against_far m p cmp.Eq = plain_far m p
-plain_against_far m p cmp.Ne = others cmp.Ne (value.Plain p) (value.Proxy m) (tuple_items (value.Plain p))
-plain_against_far m p cmp.Lt = others cmp.Lt (value.Plain p) (value.Proxy m) (tuple_items (value.Plain p))
-plain_against_far m p cmp.Le = others cmp.Le (value.Plain p) (value.Proxy m) (tuple_items (value.Plain p))
-plain_against_far m p cmp.Gt = others cmp.Gt (value.Plain p) (value.Proxy m) (tuple_items (value.Plain p))
-plain_against_far m p cmp.Ge = others cmp.Ge (value.Plain p) (value.Proxy m) (tuple_items (value.Plain p))
-
-tuple_against_far : (m : IdPack) (vs : List Value) (o : CmpOp) → compare_step o (value.Tuple vs) (value.Proxy m) ≡ operands_step o (value.Tuple vs) (value.Proxy m)
-tuple_against_far m vs cmp.Eq = equals_tuple vs (value.Proxy m)
-tuple_against_far m vs cmp.Ne = others cmp.Ne (value.Tuple vs) (value.Proxy m) (tuple_items (value.Tuple vs))
-tuple_against_far m vs cmp.Lt = others cmp.Lt (value.Tuple vs) (value.Proxy m) (tuple_items (value.Tuple vs))
-tuple_against_far m vs cmp.Le = others cmp.Le (value.Tuple vs) (value.Proxy m) (tuple_items (value.Tuple vs))
-tuple_against_far m vs cmp.Gt = others cmp.Gt (value.Tuple vs) (value.Proxy m) (tuple_items (value.Tuple vs))
-tuple_against_far m vs cmp.Ge = others cmp.Ge (value.Tuple vs) (value.Proxy m) (tuple_items (value.Tuple vs))
-
-abbrev AgainstFar : IdPack → Value → Type 0
-AgainstFar m a = (o : CmpOp) → compare_step o a (value.Proxy m) ≡ operands_step o a (value.Proxy m)
-
-against_far : (m : IdPack) (a : Value) → AgainstFar m a
-against_far m = each_value (AgainstFar m) (plain_against_far m) (tuple_against_far m) (λ n o. by_own o n (value.Proxy m)) (λ id o. by_far o id (value.Proxy m))
-
-abbrev LeftCompared : CmpOp → Value → Value → Type 0
-LeftCompared o b a = carry (operands_step o a b) ≡ carry (compare_step o a b)
-
-pub left_compared : (o : CmpOp) (a b : Value) → is_reference a ≡ true → carry (operands_step o a b) ≡ carry (compare_step o a b)
-left_compared o a b h = each_reference (LeftCompared o b) (λ n. ap carry (sym (by_own o n b))) (λ id. ap carry (sym (by_far o id b))) a h
-
--- an operand that is no reference is passed over
-pub passed : (a b : Value) (o : CmpOp) (t : Step) → is_reference a ≡ false → asks_operand a o b t ≡ t
-passed a b o t h = ap (λ (x : Bool). elim x [ true ↦ and_value (asked_step (operation.Cmp a o b)) (implemented t) | false ↦ t ]) h
-
-abbrev RightCompared : CmpOp → Value → Value → Type 0
-RightCompared o a b = compare_step o a b ≡ operands_step o a b
-
-compared_right : (o : CmpOp) (a b : Value) → is_reference b ≡ true → compare_step o a b ≡ operands_step o a b
-compared_right o a b h = each_reference (RightCompared o a) (λ n. against_own n a o) (λ id. against_far id a o) b h
-
-pub right_compared : (o : CmpOp) (a b : Value) → is_reference a ≡ false → is_reference b ≡ true → carry (asks_operand b (swapped o) a (last_step o a b)) ≡ carry (compare_step o a b)
-right_compared o a b g h = ap carry (sym (passed a b o (asks_operand b (swapped o) a (last_step o a b)) g) ∙ sym (compared_right o a b h))
-
--- ---- an operand is asked, and its answer waited for
-
-asked_operand : (a : Value) (o : CmpOp) (b : Value) (t : Step) → is_reference a ≡ true → asks_operand a o b t ≡ and_value (asked_step (operation.Cmp a o b)) (implemented t)
-asked_operand a o b t h = ap (λ (x : Bool). elim x [ true ↦ and_value (asked_step (operation.Cmp a o b)) (implemented t) | false ↦ t ]) h
-
--- the answer to an operation goes through a step
-waits : (s : State) (o : Operation) (g : Value → Step) (k : Completion → RuleTree)
-    → RunsAs s (bind (carry (and_value (asked_step o) g)) k) (bind (operates o (λ a. Give a) (λ a. carry (value_step g a))) k)
-waits s o g k = code_waits s o (λ a. Then (Give a) (λ e. Go (value_step g e))) k
-
-operand_waits : (s : State) (a : Value) (o : CmpOp) (b : Value) (t : Step) (k : Completion → RuleTree) → is_reference a ≡ true
-    → RunsAs s (bind (carry (asks_operand a o b t)) k) (bind (operates (operation.Cmp a o b) (λ e. Give e) (λ e. carry (value_step (implemented t) e))) k)
-operand_waits s a o b t k h units printed =
-    ap (λ (x : Step). runs units (bind (carry x) k) s printed) (asked_operand a o b t h) ∙ waits s (operation.Cmp a o b) (implemented t) k units printed
-
-pub left_asked : (r : Result Next NoMemory) (now before : List Frame) (o : CmpOp) (a b a' b' : Value) → is_reference a ≡ true → a' ≡ a → b' ≡ b
-    → IfOk r (λ n. Means now n (operates_over (operation.Cmp a' o b') (frame.Comparison (comparison_frame.Left o a b))) before)
-    → IfOk r (λ n. MeansAnywhere now n (carry (operands_step o a b)) before)
-left_asked (Ok n) now before o a b a' b' h e f m = λ s units printed.
-    operand_waits s a o b (asks_operand b (swapped o) a (last_step o a b)) (rest (reverse before)) h units printed
-    ∙ ap (λ (x : Value). runs units (bind (operates_over (operation.Cmp x o b) (frame.Comparison (comparison_frame.Left o a b))) (rest (reverse before))) s printed) (sym e)
-    ∙ ap (λ (x : Value). runs units (bind (operates_over (operation.Cmp a' o x) (frame.Comparison (comparison_frame.Left o a b))) (rest (reverse before))) s printed) (sym f)
-    ∙ ap (λ (t : RuleTree). runs units t s printed) (sym m)
-left_asked (Err x) now before o a b a' b' h e f m = tt
-
-pub right_asked : (r : Result Next NoMemory) (now before : List Frame) (o o' : CmpOp) (a b a' b' : Value) → is_reference b ≡ true → o' ≡ swapped o → a' ≡ a → b' ≡ b
-    → IfOk r (λ n. Means now n (operates_over (operation.Cmp b' o' a') (frame.Comparison (comparison_frame.Right o a b))) before)
-    → IfOk r (λ n. MeansAnywhere now n (carry (asks_operand b (swapped o) a (last_step o a b))) before)
-right_asked (Ok n) now before o o' a b a' b' h g e f m = λ s units printed.
-    operand_waits s b (swapped o) a (last_step o a b) (rest (reverse before)) h units printed
-    ∙ ap (λ (x : Value). runs units (bind (operates_over (operation.Cmp x (swapped o) a) (frame.Comparison (comparison_frame.Right o a b))) (rest (reverse before))) s printed) (sym f)
-    ∙ ap (λ (x : CmpOp). runs units (bind (operates_over (operation.Cmp b' x a) (frame.Comparison (comparison_frame.Right o a b))) (rest (reverse before))) s printed) (sym g)
-    ∙ ap (λ (x : Value). runs units (bind (operates_over (operation.Cmp b' o' x) (frame.Comparison (comparison_frame.Right o a b))) (rest (reverse before))) s printed) (sym e)
-    ∙ ap (λ (t : RuleTree). runs units t s printed) (sym m)
-right_asked (Err x) now before o o' a b a' b' h g e f m = tt
-
--- ---- answers
-
-abbrev NotImplemented : Step → Completion → Type 0
-NotImplemented t e = is_not_implemented e ≡ true → carry t ≡ carry (value_step (implemented t) e)
-
-not_implemented_value : (t : Step) (v : Value) → NotImplemented t (Gives v)
-not_implemented_value t =
-    each_value (λ (v : Value). NotImplemented t (Gives v))
-    (each_plain (λ (p : Plain). NotImplemented t (Gives (value.Plain p))) (λ h. cc) (λ b. (λ h. cc)) (λ n. (λ h. cc)) (λ x. (λ h. cc)) (λ x. (λ h. cc)) (λ h. refl) (λ h. cc) (λ ps. (λ h. cc)))
-    (λ vs. (λ h. cc)) (λ n. (λ h. cc)) (λ id. (λ h. cc))
-
-pub not_implemented : (e : Completion) (t : Step) → NotImplemented t e
-not_implemented (Gives v) t = not_implemented_value t v
-not_implemented (Raises r) t = (λ h. cc)
-not_implemented (Returns v) t = (λ h. cc)
-not_implemented Breaks t = (λ h. cc)
-not_implemented Continues t = (λ h. cc)
-not_implemented (Drained vs) t = (λ h. cc)
-
-abbrev HandedOn : Step → Completion → Type 0
-HandedOn t e = is_not_implemented e ≡ false → carry (Ends e) ≡ carry (value_step (implemented t) e)
-
-handed_on_value : (t : Step) (v : Value) → HandedOn t (Gives v)
-handed_on_value t =
-    each_value (λ (v : Value). HandedOn t (Gives v))
-    (each_plain (λ (p : Plain). HandedOn t (Gives (value.Plain p))) (λ h. refl) (λ b. (λ h. refl)) (λ n. (λ h. refl)) (λ x. (λ h. refl)) (λ x. (λ h. refl)) (λ h. cc) (λ h. refl) (λ ps. (λ h. refl)))
-    (λ vs. (λ h. refl)) (λ n. (λ h. refl)) (λ id. (λ h. refl))
-
-pub handed_on : (e : Completion) (t : Step) → HandedOn t e
-handed_on (Gives v) t = handed_on_value t v
-handed_on (Raises r) t = (λ h. refl)
-handed_on (Returns v) t = (λ h. refl)
-handed_on Breaks t = (λ h. refl)
-handed_on Continues t = (λ h. refl)
-handed_on (Drained vs) t = (λ h. refl)
-
--- ---- links of a chain
+use Rattle.eval_frames.specs.Meaning.{Means, decides, rest}
+use Rattle.eval_comparing.proofs.Moving.{in_state}
+use Rattle.eval_comparing.specs.Answers.{question_step, refers}
+use Rattle.eval_comparing.specs.Compared.{Compares, RunsLike, turned_by}
+use Rattle.eval_comparing.specs.declared.answer.Compared.{Compared}
+use Rattle.eval_comparing.specs.declared.answer.Compared.TheVariants as compared
+use Rattle.eval_comparing.specs.declared.answer.Question.{Question}
+use Rattle.eval_comparing.specs.Steps.{MeansAnywhere}
 
 pub next_linked : (env : Env) (c : Comparison) (a b : Value) (old new : List Link) (l : Link) → old ≡ new ++ l ∷ [] → links_from env (l ∷ reverse new) c a b ≡ links_from env (reverse old) c a b
 next_linked env c a b old new l e = ap (λ (ls : List Link). links_from env ls c a b) (sym (ap (λ (ls : List Link). reverse ls) e ∙ reverse-append new (l ∷ [])))
@@ -240,7 +50,88 @@ pub not_contained : (c : Comparison) (a b : Value) → c ≡ comparison.NotIn �
 unfolding link_rule
 not_contained c a b e = ap (λ (x : Comparison). link_rule x a b) (sym e)
 
--- where the left operand is no reference, the right one is
-pub other_side : (a b : Bool) → a ≡ false → (a || b) ≡ true → b ≡ true
-other_side true b h g = cc
-other_side false b h g = g
+-- ---- links of tuples
+
+-- an object within the tuples is asked, and its answer decides whether the chain goes on
+pub tuples_before : (r : Result Next NoMemory) (now before : List Frame) (env : Env) (b : Value) (old new : List Link) (l : Link) (u : RuleTree) → old ≡ new ++ l ∷ []
+    → IfOk r (λ n. MeansAnywhere now n (bind u (on_value (λ v. on_truth v (decides (decision.Link env b l new) v)))) before)
+    → IfOk r (λ n. (c : Comparison) (a : Value) → RunsLike (link_rule c a b) u → MeansAnywhere now n (links_from env (reverse old) c a b) before)
+tuples_before (Ok n) now before env b old new l u is h = λ c a like s units printed.
+    let decided : Completion → RuleTree = on_value (λ v. on_truth v (decides (decision.Link env b l new) v)) in
+    ap (λ (t : RuleTree). runs units (bind t (rest (reverse before))) s printed) (sym (next_linked env c a b old new l is))
+    ∙ ap (λ (t : RuleTree). runs units t s printed) (bind-bind (link_rule c a b) decided (rest (reverse before)))
+    ∙ like s (λ e. bind (decided e) (rest (reverse before))) units printed
+    ∙ ap (λ (t : RuleTree). runs units t s printed) (sym (bind-bind u decided (rest (reverse before))))
+    ∙ h s units printed
+tuples_before (Err x) now before env b old new l u is h = tt
+
+pub tuples_last : (r : Result Next NoMemory) (now before : List Frame) (env : Env) (b : Value) (old : List Link) (u : RuleTree) → old ≡ []
+    → IfOk r (λ n. MeansAnywhere now n u before)
+    → IfOk r (λ n. (c : Comparison) (a : Value) → RunsLike (link_rule c a b) u → MeansAnywhere now n (links_from env (reverse old) c a b) before)
+tuples_last (Ok n) now before env b old u is h = λ c a like s units printed.
+    ap (λ (t : RuleTree). runs units (bind t (rest (reverse before))) s printed) (sym (last_linked env c a b old is))
+    ∙ like s (rest (reverse before)) units printed
+    ∙ h s units printed
+tuples_last (Err x) now before env b old u is h = tt
+
+-- ---- links that ask no object
+
+pub told_link : (r : Result Next NoMemory) (now before : List Frame) (env : Env) (ls : List Link) (b : Value) (answer : Result Value OpEnd) (c : Comparison) (a : Value) → Computes (link_rule c a b) answer
+    → IfOk r (λ n. (d : Comparison) (v : Value) → Computes (link_rule d v b) answer → Means now n (links_from env ls d v b) before)
+    → IfOk r (λ n. MeansAnywhere now n (links_from env ls c a b) before)
+told_link (Ok n) now before env ls b answer c a is h = λ s. in_state n now before (links_from env ls c a b) s (h c a is)
+told_link (Err x) now before env ls b answer c a is h = tt
+
+pub computed_value : (t : RuleTree) (r : Result (Option Value) OpEnd) (v : Value) → r ≡ Ok (Some v) → ComputesUnlessAsked t r → Computes t (Ok v)
+computed_value t r v is h = subst (λ (x : Result (Option Value) OpEnd). ComputesUnlessAsked t x) is h
+
+computed_to : (t : RuleTree) (e : OpEnd) → ComputesUnlessAsked t (Err e) → Computes t (Err e)
+computed_to t (op_end.Raise r) h = h
+computed_to t (op_end.Beyond b) h = h
+computed_to t op_end.NoMemory h = tt
+
+pub computed_end : (t : RuleTree) (r : Result (Option Value) OpEnd) (e : OpEnd) → r ≡ Err e → ComputesUnlessAsked t r → Computes t (Err e)
+computed_end t r e is h = computed_to t e (subst (λ (x : Result (Option Value) OpEnd). ComputesUnlessAsked t x) is h)
+
+turned_false : (b : Bool) → not b ≡ true → b ≡ false
+turned_false true h = cc
+turned_false false h = refl
+
+pub not_both : (b : Bool) (r : Result (Option Value) OpEnd) → r ≡ Ok None → AsksOnly (not b) r → b ≡ false
+not_both b r is h = turned_false b (subst (λ (x : Result (Option Value) OpEnd). AsksOnly (not b) x) is h)
+
+-- a comparison that asks is no other in any run
+pub same_runs : (t u : RuleTree) → t ≡ u → RunsLike t u
+same_runs t u e s k units printed = ap (λ (x : RuleTree). runs units (bind x k) s printed) e
+
+pub compared_asked : (t : RuleTree) (x : Compared) (q : Question) → x ≡ compared.Asked q → Compares t x → RunsLike t (turned_by false (carry (question_step q)))
+compared_asked t x q is h =
+    let there : (t ≡ carry (question_step q)) × refers q.left q.right = subst (λ (y : Compared). Compares t y) is h in
+    same_runs t (carry (question_step q)) there.0
+
+pub compared_opposite : (t : RuleTree) (x : Compared) (q : Question) → x ≡ compared.Opposite q → Compares t x → RunsLike t (turned_by true (carry (question_step q)))
+compared_opposite t x q is h =
+    let there : RunsLike t (bind (carry (question_step q)) (on_value opposite)) × refers q.left q.right = subst (λ (y : Compared). Compares t y) is h in there.0
+
+pub refers_asked : (t : RuleTree) (x : Compared) (q : Question) → x ≡ compared.Asked q → Compares t x → refers q.left q.right
+refers_asked t x q is h =
+    let there : (t ≡ carry (question_step q)) × refers q.left q.right = subst (λ (y : Compared). Compares t y) is h in there.1
+
+pub refers_opposite : (t : RuleTree) (x : Compared) (q : Question) → x ≡ compared.Opposite q → Compares t x → refers q.left q.right
+refers_opposite t x q is h =
+    let there : RunsLike t (bind (carry (question_step q)) (on_value opposite)) × refers q.left q.right = subst (λ (y : Compared). Compares t y) is h in there.1
+
+pub compared_ended : (t : RuleTree) (x : Compared) (answer : Result Value OpEnd) → x ≡ compared.Ended answer → Compares t x → Computes t answer
+compared_ended t x answer is h = subst (λ (y : Compared). Compares t y) is h
+
+pub links_like : (r : Result Next NoMemory) (now before : List Frame) (env : Env) (ls : List Link) (b : Value) (u : RuleTree) (c : Comparison) (a : Value) → RunsLike (link_rule c a b) u
+    → IfOk r (λ n. (d : Comparison) (v : Value) → RunsLike (link_rule d v b) u → MeansAnywhere now n (links_from env ls d v b) before)
+    → IfOk r (λ n. MeansAnywhere now n (links_from env ls c a b) before)
+links_like (Ok n) now before env ls b u c a is h = h c a is
+links_like (Err x) now before env ls b u c a is h = tt
+
+pub ok_some : (r : Result (Option Value) OpEnd) (o : Option Value) (v : Value) → r ≡ Ok o → o ≡ Some v → r ≡ Ok (Some v)
+ok_some r o v h g = h ∙ ap (λ (x : Option Value). Ok x) g
+
+pub ok_none : (r : Result (Option Value) OpEnd) (o : Option Value) → r ≡ Ok o → o ≡ None → r ≡ Ok None
+ok_none r o h g = h ∙ ap (λ (x : Option Value). Ok x) g

@@ -18,25 +18,16 @@ use Rattle.language_rules.specs.AtOnce.{stated}
 use Rattle.language_rules.specs.Codes.{Completion, Gives}
 use Rattle.language_rules.specs.Going.{RuleTree, boolean}
 use Rattle.language_rules.specs.Kinds.{is_reference, kind_there}
+use Rattle.language_rules.specs.Printing.{repr_step, str_step}
 use Rattle.language_rules.specs.States.{State}
 use Rattle.language_rules.specs.Truth.{on_bool}
 use Rattle.eval_frames.specs.declared.frame.Frame.{Frame}
 use Rattle.eval_frames.specs.declared.loop_frames.Collection.{Collection}
 use Rattle.eval_frames.specs.declared.loop_frames.Collection.TheVariants as collection
 use Rattle.eval_frames.specs.declared.next.Next.{Next}
-use Rattle.eval_frames.specs.Meaning.{IsLight, Means, MeansIn, load}
-
--- what comes next in every state with these cells, whatever its texts
-abbrev pub MeansAt : List Cell → List Frame → Next → RuleTree → List Frame → Type 0
-MeansAt cells now n t before = (fixed : State) (texts : List Program) → MeansIn (stated fixed cells texts) now n t before
-
--- what comes next in every state
-abbrev pub MeansAnywhere : List Frame → Next → RuleTree → List Frame → Type 0
-MeansAnywhere now n t before = (s : State) → MeansIn s now n t before
-
--- so little is added that a frame may still be pushed before
-abbrev pub IsSlight : List Frame → Next → List Frame → Type 0
-IsSlight now n before = load now n ≤ 3 * length before + 9
+use Rattle.eval_frames.specs.Meaning.{IsLight, Means}
+pub use Rattle.eval_comparing.specs.Compared.{asks_link}
+pub use Rattle.eval_comparing.specs.Steps.{IsSlight, MeansAnywhere, MeansAt}
 
 -- The answer to a question for a truth is this bool; else what comes next, whatever was to be done by the bool.
 abbrev pub IsTold : Completion → Result Bool Next → Type 0
@@ -47,28 +38,20 @@ abbrev pub IsLightUnlessTold : Result Bool Next → Type 0
 IsLightUnlessTold (Ok b) = ⊤
 IsLightUnlessTold (Err n) = (stack : List Frame) → IsLight stack n stack
 
--- whether a link of a chain asks an object: a comparison one of its operands, and a membership test the container on the right
-abbrev pub asks_link : Comparison → Value → Value → Bool
-asks_link (comparison.Order o) a b = is_reference a || is_reference b
-asks_link comparison.In a b = is_reference b
-asks_link comparison.NotIn a b = is_reference b
-asks_link _ a b = false
-
 -- the kind of the object that a value refers to, among these cells
 abbrev pub value_kind : List Cell → Value → Option Kind
 value_kind cells (value.Own n) = kind_there (cell_of cells n)
 value_kind cells (value.Proxy id) = Some (kind_named id.name id.inst_no)
 value_kind cells _ = None
 
--- whether an operand answers that it is not compared with the other one
-abbrev pub is_not_implemented : Completion → Bool
-is_not_implemented (Gives (value.Plain plain.NotImpl)) = true
-is_not_implemented _ = false
-
 -- what was found is the only one of these values, and refers to an object
 abbrev pub IsOnlyReference : List Value → Option Value → Type 0
 IsOnlyReference vs (Some v) = (vs ≡ v ∷ []) × (is_reference v ≡ true)
 IsOnlyReference vs None = ⊤
+
+-- the only one of these values, whose `str` is its `repr`, as that of a tuple is
+abbrev pub IsOnlyTuple : List Value → Value → Type 0
+IsOnlyTuple vs v = (vs ≡ v ∷ []) × (str_step v ≡ repr_step v)
 
 -- the builtin functions that go over what they are given
 abbrev pub drains_object : Builtin → Bool

@@ -1,4 +1,4 @@
-ghost use Rattle.std.specs.Prelude.{◌≡◌, ◌∷◌, [], IfOk, List, false, true};
+ghost use Rattle.std.specs.Prelude.{◌≡◌, ◌∷◌, [], IfOk, IfSome, List, false, true};
 ghost use Rattle.py_ast.specs.declared.builtin.Builtin.{Builtin};
 ghost use Rattle.eval_frames.specs.declared.frame.Frame.{Frame};
 ghost use Rattle.eval_frames.specs.Meaning.{IsLight, Means};
@@ -8,7 +8,8 @@ ghost use Rattle.eval_frames.specs.declared.loop_frames.Draining.TheVariants as 
 ghost use Rattle.language_rules.specs.Draining.{drains_kind, goes_over, not_iterable};
 ghost use Rattle.language_rules.specs.Going.{RuleTree};
 ghost use Rattle.language_rules.specs.Kinds.{is_reference};
-ghost use Rattle.eval_exprs.specs.Steps.{IsOnlyReference, MeansAt, collection_for, drains_object, is_gone_over, takes_no_object};
+ghost use Rattle.language_rules.specs.Printing.{gives_text, on_repr};
+ghost use Rattle.eval_exprs.specs.Steps.{IsOnlyReference, IsOnlyTuple, MeansAnywhere, MeansAt, collection_for, drains_object, is_gone_over, takes_no_object};
 
 use crate::kinds::kind_of;
 use crate::making::{dict, list, range, sorted};
@@ -18,6 +19,7 @@ use eval_frames::{
     Collection, Decision, DrainFrame, Draining, Frame, Next, OperationFrame, computed, fail,
     is_reference, operate, operate_over, special,
 };
+use eval_tuple_texts::begin_text;
 use object_operations::{Operation, Special};
 use py_ast::Builtin;
 use py_store::Store;
@@ -25,8 +27,7 @@ use rp_base::{Beyond, ExcKind, Kind, NoMemory, Value};
 use sqlite_items::Items;
 use std::alloc::Global;
 
-/// A builtin function with its arguments (Python Library Reference, "Built-in Functions"). The text of a tuple that holds
-/// a reference is not built yet.
+/// A builtin function with its arguments (Python Library Reference, "Built-in Functions").
 pub(crate) fn call_function(
     alloc: Global,
     stack: &mut Vec<Frame>,
@@ -39,7 +40,57 @@ pub(crate) fn call_function(
 {
     match only_reference(alloc, arguments.as_slice())? {
         Some(value) => call_of_object(alloc, stack, store, function, value),
-        None => call_at_hand(alloc, function, arguments.as_slice()),
+        None => call_without_object(alloc, stack, function, arguments.as_slice()),
+    }
+}
+
+/// A builtin function of values that are no objects by themselves, but may hold some.
+fn call_without_object(
+    alloc: Global,
+    stack: &mut Vec<Frame>,
+    function: Builtin,
+    arguments: &[Value],
+) -> Result<Next, NoMemory>
+    ensures means { IfOk result (λ next. MeansAnywhere stack.new.items next (builtin_rule function arguments.now) stack.old.items) }
+    ensures light { IfOk result (λ next. IsLight stack.new.items next stack.old.items) }
+{
+    match tuple_to_show(alloc, function, arguments)? {
+        Some(tuple) => begin_text(alloc, stack, tuple),
+        None => call_at_hand(alloc, function, arguments),
+    }
+}
+
+/// The only argument of `str` or `repr`, where it is a tuple.
+fn tuple_to_show(
+    alloc: Global,
+    function: Builtin,
+    arguments: &[Value],
+) -> Result<Option<Value>, NoMemory>
+    ensures { IfOk result (λ found. IfSome found (λ v. builtin_rule function arguments.now ≡ on_repr v gives_text)) }
+{
+    match function {
+        Builtin::Str => only_tuple(alloc, arguments),
+        Builtin::Repr => only_tuple(alloc, arguments),
+        _ => Ok(None),
+    }
+}
+
+/// The only value, where it is a tuple.
+fn only_tuple(alloc: Global, values: &[Value]) -> Result<Option<Value>, NoMemory>
+    ensures { IfOk result (λ found. IfSome found (λ v. IsOnlyTuple values.now v)) }
+{
+    match values {
+        [value] => copy_of_tuple(alloc, value),
+        _ => Ok(None),
+    }
+}
+
+fn copy_of_tuple(alloc: Global, value: &Value) -> Result<Option<Value>, NoMemory>
+    ensures { IfOk result (λ found. IfSome found (λ v. IsOnlyTuple (value.now ∷ []) v)) }
+{
+    match value {
+        Value::Tuple(_) => Ok(Some(value.copy(alloc)?)),
+        _ => Ok(None),
     }
 }
 

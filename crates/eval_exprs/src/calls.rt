@@ -145,7 +145,7 @@ fn enter_callee(
 }
 
 /// The arguments of a call that wait, behind these values; then the call itself.
-pub(crate) fn gather_arguments(
+pub fn gather_arguments(
     stack: &mut Vec<Frame>,
     env: Env,
     callee: Value,

@@ -1,3 +1,4 @@
 pub mod Answering
 pub mod Operating
+pub mod Shapes
 pub mod Turns

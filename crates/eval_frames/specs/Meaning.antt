@@ -12,7 +12,7 @@ use Rattle.language_rules.specs.Answers.{asked, tuple_answers, evaluated, gives}
 use Rattle.language_rules.specs.Beginnings.{while_begins}
 use Rattle.language_rules.specs.Builtins.{builtin_rule}
 use Rattle.language_rules.specs.Chains.{or_from, and_from, links_rule, links_from}
-use Rattle.language_rules.specs.Codes.{Completion, Env, Member, Node, Perform, Give, Returns}
+use Rattle.language_rules.specs.Codes.{Completion, Env, Gives, Member, Node, Perform, Give, Returns, Step}
 use Rattle.language_rules.specs.Comparing.{found_step}
 use Rattle.language_rules.specs.Displays.{entries_with, new_dict, new_list}
 use Rattle.language_rules.specs.Functions.{returned}
@@ -29,7 +29,7 @@ use Rattle.language_rules.specs.States.{Handling, MadeClass, State}
 use Rattle.language_rules.specs.Statements.{otherwise_rule}
 use Rattle.language_rules.specs.Targets.{assigns}
 use Rattle.language_rules.specs.Texts.{executes_suite}
-use Rattle.language_rules.specs.Truth.{on_bool, on_truth}
+use Rattle.language_rules.specs.Truth.{and_bool, on_bool, on_truth, tells}
 use Rattle.eval_frames.specs.declared.frame.Decision.{Decision}
 use Rattle.eval_frames.specs.declared.frame.Decision.TheVariants as decision
 use Rattle.eval_frames.specs.declared.frame.ExpressionFrame.{ExpressionFrame}
@@ -38,6 +38,8 @@ use Rattle.eval_frames.specs.declared.frame.Frame.{Frame}
 use Rattle.eval_frames.specs.declared.frame.Frame.TheVariants as frame
 use Rattle.eval_frames.specs.declared.frame.Gathering.{Gathering}
 use Rattle.eval_frames.specs.declared.frame.Gathering.TheVariants as gathering
+use Rattle.eval_frames.specs.declared.frame.TestLevel.{TestLevel}
+use Rattle.eval_frames.specs.declared.frame.TestLevel.TheVariants as test_level
 use Rattle.eval_frames.specs.declared.frame.ValuePair.{ValuePair}
 use Rattle.eval_frames.specs.ClassFrames.{through_class}
 use Rattle.eval_frames.specs.HandlerFrames.{through_handler}
@@ -54,9 +56,19 @@ use Rattle.eval_frames.specs.declared.next.Next.TheVariants as next
 -- ---- frames
 
 -- whether the values of each pair are one object or equal, in turn, up to the first pair that are not
-abbrev pub all_equal : List ValuePair → RuleTree
-all_equal [] = gives (boolean true)
-all_equal (p ∷ ps) = bind (carry (found_step p.left p.right)) (on_bool (λ b. if b then all_equal ps else gives (boolean false)))
+abbrev pub equal_pairs_step : List ValuePair → Step
+equal_pairs_step [] = tells true
+equal_pairs_step (p ∷ ps) = and_bool (found_step p.left p.right) (λ b. elim b [ true ↦ equal_pairs_step ps | false ↦ tells false ])
+
+-- what a level tells behind an answer that is true or not
+abbrev pub level_step : TestLevel → Bool → Step
+level_step (test_level.Pairs waiting) b = elim b [ true ↦ equal_pairs_step (reverse waiting) | false ↦ tells false ]
+level_step (test_level.Search wanted waiting) b = elim b [ true ↦ tells true | false ↦ search_tuple_step (reverse waiting) wanted ]
+
+-- the truth of an answer goes to a level, and the truth of what that tells to the level around it, the innermost first
+abbrev pub test_levels : List TestLevel → Completion → RuleTree
+test_levels [] a = Return a
+test_levels (l ∷ ls) a = bind (on_value (λ v. on_truth v (λ b. carry (level_step l b))) a) (test_levels ls)
 
 -- what is done by the truth of a value
 abbrev pub decides : Decision → Value → Bool → RuleTree
@@ -68,8 +80,7 @@ decides (decision.Link env left l waiting) v holds = if holds then evaluates env
 decides (decision.If env body otherwise) v holds = if holds then executes_suite env body else otherwise_rule env otherwise
 decides (decision.While env test body) v holds = if holds then bind (executes_suite env body) (next_turn (while_begins env test body)) else Return done
 decides decision.Bool v holds = gives (boolean holds)
-decides (decision.Pairs waiting) v holds = if holds then all_equal (reverse waiting) else gives (boolean false)
-decides (decision.Found wanted waiting) v holds = if holds then gives (boolean true) else carry (search_tuple_step (reverse waiting) wanted)
+decides (decision.Levels levels) v holds = test_levels (reverse levels) (Gives (boolean holds))
 
 -- what is made of values
 abbrev pub gathers : Gathering → List Value → RuleTree

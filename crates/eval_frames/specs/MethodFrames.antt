@@ -1,6 +1,7 @@
 -- What waits for the answer of a method that the class of an instance has, and what it makes of a value.
 use Rattle.rp_base.specs.declared.value.Value.{Value}
 use Rattle.language_rules.specs.Answers.{gives}
+use Rattle.language_rules.specs.Arithmetic.{gives_result}
 use Rattle.language_rules.specs.Calls.{initialised}
 use Rattle.language_rules.specs.CellComparing.{turned}
 use Rattle.language_rules.specs.Going.{RuleTree}
@@ -20,3 +21,4 @@ through_method method_frame.Truth v = gives_truth v
 through_method method_frame.Iterator v = on_kind v (gives_iterator v)
 through_method method_frame.Opposite v = turned v
 through_method method_frame.Text v = text_result v
+through_method method_frame.Operator v = gives_result v

@@ -17,7 +17,21 @@ pub struct ValuePair {
     pub right: Value,
 }
 
-/// What is done by the truth of a value. Numbers, links, pairs and values that wait stand the last first.
+/// What is still to be tested behind an answer that is true or not. Pairs and values stand the last first.
+#[derive(Drop)]
+pub enum TestLevel {
+    /// Whether all pairs from the next on are equal too.
+    Pairs {
+        waiting: Items<ValuePair>,
+    },
+    /// Whether a value is found among the items from the next on.
+    Search {
+        wanted: Value,
+        waiting: Items<Value>,
+    },
+}
+
+/// What is done by the truth of a value. Numbers and links that wait stand the last first.
 #[derive(Drop)]
 pub enum Decision {
     /// The operands of an `or` from the next on.
@@ -57,14 +71,9 @@ pub enum Decision {
     },
     /// The truth itself is the value.
     Bool,
-    /// Whether all pairs from the next on are equal too.
-    Pairs {
-        waiting: Items<ValuePair>,
-    },
-    /// Whether a value is found among the items from the next on.
-    Found {
-        wanted: Value,
-        waiting: Items<Value>,
+    /// What is still to be tested, level by level: the truth of what one tells goes to the one around it, the innermost last.
+    Levels {
+        levels: Items<TestLevel>,
     },
 }
 

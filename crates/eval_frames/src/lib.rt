@@ -19,7 +19,9 @@ mod target_frame;
 pub use asking::{are_too_heavy, fail, is_reference, operate, operate_over, special, special_with};
 pub use class_frame::ClassFrame;
 pub use enter::enter_over;
-pub use frame::{Decision, ExpressionFrame, Frame, Gathering, StatementFrame, ValuePair};
+pub use frame::{
+    Decision, ExpressionFrame, Frame, Gathering, StatementFrame, TestLevel, ValuePair,
+};
 pub use handler_frame::{HandlerFrame, HandlerReading};
 pub use laws::{
     a_loop_tests_again, a_step_behind_another_waits, code_between_goes_on, code_that_goes_on_waits,

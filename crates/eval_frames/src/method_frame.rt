@@ -15,4 +15,6 @@ pub enum MethodFrame {
     Opposite,
     /// `__str__` or `__repr__`.
     Text,
+    /// An arithmetic method, whose value is the answer unless it is NotImplemented.
+    Operator,
 }

@@ -6,6 +6,7 @@ use Rattle.rp_base.specs.declared.identity.Kind.{Kind}
 use Rattle.rp_base.specs.declared.operators.CmpOp.{CmpOp}
 use Rattle.rp_base.specs.declared.value.Value.{Value}
 use Rattle.rp_base.specs.declared.value.Value.TheVariants as value
+use Rattle.object_operations.specs.Names.{special_name}
 use Rattle.object_operations.specs.declared.operation.Operation.{Operation}
 use Rattle.object_operations.specs.declared.operation.Operation.TheVariants as operation
 use Rattle.object_operations.specs.declared.special.Special.{Special}
@@ -17,6 +18,7 @@ use Rattle.py_store.specs.declared.cell.Cell.{Cell}
 use Rattle.py_store.specs.declared.cell.Cell.TheVariants as cell
 use Rattle.side_trees.specs.Trees.{Return, bind}
 use Rattle.language_rules.specs.Answers.{asked, gives}
+use Rattle.language_rules.specs.Arithmetic.{calls_operator, gives_result}
 use Rattle.language_rules.specs.AtOnce.{stated}
 use Rattle.language_rules.specs.Attributes.{by_method, calls_method, calls_or, class_method}
 use Rattle.language_rules.specs.Calls.{initialised, initialises, makes_instance}
@@ -24,11 +26,13 @@ use Rattle.language_rules.specs.CellComparing.{instance_compare, method_gave, me
 use Rattle.language_rules.specs.Codes.{Breaks, Completion, Continues, Drained, Give, Gives, Raises, Returns}
 use Rattle.language_rules.specs.Going.{RuleTree, asks, looks, makes, on_value, operates}
 use Rattle.language_rules.specs.Kinds.{is_reference, kind_of, on_kind}
+use Rattle.language_rules.specs.Operators.{unsupported}
 use Rattle.language_rules.specs.Perform.{special_of_cell}
 use Rattle.language_rules.specs.Running.{runs}
 use Rattle.language_rules.specs.States.{State}
 use Rattle.language_rules.specs.Truth.{on_bool, on_truth}
 use Rattle.eval_frames.specs.declared.frame.Frame.{Frame}
+use Rattle.eval_frames.specs.declared.method_frame.MethodFrame.TheVariants as method_frame
 use Rattle.eval_frames.specs.declared.next.Next.{Next}
 use Rattle.eval_frames.proofs.Operating.{operates_bound}
 use Rattle.eval_frames.specs.declared.frame.Decision.TheVariants as decision
@@ -209,3 +213,11 @@ pub instance_made : (old new : Cells) (class_no i : ℕ) (vs as_told : List Valu
 instance_made old new class_no i vs as_told bs r now before p q e same h =
     made old new (cell.Instance class_no []) (cell.Instance class_no bs) i (λ j. looks (λ s. initialises j vs (class_method s j (codes "__init__")))) r now before p q (ap (λ (cs : List Binding). cell.Instance class_no cs) e)
     (subst (λ (ws : List Value). IfOk r (Within new.cells now (looks (λ s. initialises i ws (class_method s i (codes "__init__")))) before)) same h)
+
+-- ---- operators
+
+pub operator_told : (cells : List Cell) (now before : List Frame) (n : ℕ) (o : Special) (x : Value) (name : List ℕ) (vs : List Value) (r : Result Next NoMemory) → name ≡ special_name o → vs ≡ x ∷ []
+    → IfOk r (Within cells now (calls_method n name vs (goes_on (after.Method method_frame.Operator)) unsupported) before) → IfOk r (Within cells now (calls_operator n o x unsupported) before)
+operator_told cells now before n o x name vs r named one h =
+    subst (λ (w : List ℕ). IfOk r (Within cells now (calls_method n w (x ∷ []) gives_result unsupported) before)) named
+    (subst (λ (ws : List Value). IfOk r (Within cells now (calls_method n name ws gives_result unsupported) before)) one h)

@@ -51,6 +51,10 @@ bound_if n v is_function = if is_function then gives_new (cell.Bound (value.Own 
 abbrev pub turned_if : Value → Bool → RuleTree
 turned_if v is_unknown = if is_unknown then not_implemented else on_truth v (decides decision.Not v)
 
+-- what an arithmetic method gave, by whether it is NotImplemented
+abbrev pub result_if : Value → Bool → RuleTree
+result_if v is_unknown = if is_unknown then unsupported else gives v
+
 -- what `__init__` gave, by whether it is None
 abbrev pub initialised_if : ℕ → Bool → RuleTree
 initialised_if i is_none = if is_none then gives (value.Own i) else wrong_result

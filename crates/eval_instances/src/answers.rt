@@ -6,6 +6,7 @@ ghost use Rattle.eval_frames.specs.declared.frame.Frame.{Frame};
 ghost use Rattle.eval_frames.specs.declared.frame.Decision.TheVariants as decision;
 ghost use Rattle.eval_frames.specs.Meaning.{IsLight, Means, MeansIn, decides};
 ghost use Rattle.eval_frames.specs.MethodFrames.{through_method};
+ghost use Rattle.language_rules.specs.Arithmetic.{gives_result};
 ghost use Rattle.language_rules.specs.AtOnce.{stated};
 ghost use Rattle.language_rules.specs.Calls.{initialised};
 ghost use Rattle.language_rules.specs.CellComparing.{turned};
@@ -15,7 +16,7 @@ ghost use Rattle.language_rules.specs.Lengths.{gives_truth};
 ghost use Rattle.language_rules.specs.Printing.{text_result};
 ghost use Rattle.language_rules.specs.States.{State};
 ghost use Rattle.language_rules.specs.Truth.{on_truth};
-ghost use Rattle.eval_instances.specs.Methods.{AtOnce, initialised_if, iterator_if, text_if, truth_told, turned_if};
+ghost use Rattle.eval_instances.specs.Methods.{AtOnce, initialised_if, iterator_if, result_if, text_if, truth_told, turned_if};
 
 use crate::lengths::give_length;
 use eval_frames::{Decision, Frame, MethodFrame, Next, operate_over, special};
@@ -45,6 +46,7 @@ pub fn give_method(
         MethodFrame::Iterator => give_iterator(alloc, store, value),
         MethodFrame::Opposite => give_opposite(alloc, stack, value),
         MethodFrame::Text => give_text(alloc, value),
+        MethodFrame::Operator => give_result(alloc, value),
     }
 }
 
@@ -166,7 +168,8 @@ fn give_opposite(alloc: Global, stack: &mut Vec<Frame>, value: Value) -> Result<
 }
 
 fn is_unknown(value: &Value) -> bool
-    ensures { turned value.now ≡ turned_if value.now result }
+    ensures turned { turned value.now ≡ turned_if value.now result }
+    ensures gives { gives_result value.now ≡ result_if value.now result }
 {
     match value {
         Value::Plain(plain) => is_not_implemented(plain),
@@ -177,7 +180,8 @@ fn is_unknown(value: &Value) -> bool
 }
 
 fn is_not_implemented(plain: &Plain) -> bool
-    ensures { turned (value.Plain plain.now) ≡ turned_if (value.Plain plain.now) result }
+    ensures turned { turned (value.Plain plain.now) ≡ turned_if (value.Plain plain.now) result }
+    ensures gives { gives_result (value.Plain plain.now) ≡ result_if (value.Plain plain.now) result }
 {
     match plain {
         Plain::NotImpl => true,
@@ -188,6 +192,18 @@ fn is_not_implemented(plain: &Plain) -> bool
         Plain::Bytes(_) => false,
         Plain::Ellipsis => false,
         Plain::Tuple(_) => false,
+    }
+}
+
+/// What an arithmetic method gave, unless it is NotImplemented.
+fn give_result(alloc: Global, value: Value) -> Result<Next, NoMemory>
+    ensures means { IfOk result (λ next. (stack : List Frame) → Means stack next (gives_result value) stack) }
+    ensures light { IfOk result (λ next. (stack : List Frame) → IsLight stack next stack) }
+{
+    if is_unknown(&value) {
+        refuse(alloc, "unsupported operand")
+    } else {
+        Ok(give(value))
     }
 }
 

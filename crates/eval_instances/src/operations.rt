@@ -11,7 +11,7 @@ ghost use Rattle.language_rules.specs.Operators.{unsupported};
 ghost use Rattle.eval_instances.specs.Methods.{AtOnce, Within, less_if, less_items, true_by_length};
 
 use crate::calling::{After, call};
-use crate::methods::{class_method, has_method};
+use crate::methods::{call_or_refuse, class_method, has_method};
 use eval_frames::{Frame, MethodFrame, Next};
 use eval_ranges::{give_truth, kind_of_value, refuse};
 use object_operations::Special;
@@ -120,35 +120,49 @@ fn would_drain(alloc: Global, store: &Store, number: u32) -> Result<Next, NoMemo
     }
 }
 
-/// An operator on an instance and another value. What a method gives for it is not built yet.
+/// An operator on an instance and another value, by the method of its class.
 pub(crate) fn operate_with(
     alloc: Global,
+    stack: &mut Vec<Frame>,
     store: &Store,
     number: u32,
     special: Special,
     x: &Value,
 ) -> Result<Next, NoMemory>
-    ensures means { IfOk result (AtOnce store.now.cells (calls_operator number special x.now unsupported)) }
-    ensures light { IfOk result (λ next. (stack : List Frame) → IsLight stack next stack) }
+    ensures means { IfOk result (Within store.now.cells stack.new.items (calls_operator number special x.now unsupported) stack.old.items) }
+    ensures light { IfOk result (λ next. IsLight stack.new.items next stack.old.items) }
 {
-    match class_method(store, number, special.text()) {
-        Some(_) => Err(NoMemory),
-        None => refuse(alloc, "unsupported operand"),
-    }
+    let after = After::Method(MethodFrame::Operator);
+    let arguments = slice::from_ref(x);
+    call_or_refuse(
+        alloc,
+        stack,
+        store,
+        number,
+        special.text(),
+        arguments,
+        after,
+        "unsupported operand",
+    )
 }
 
 /// A difference of an instance and another value.
 pub(crate) fn subtract(
     alloc: Global,
+    stack: &mut Vec<Frame>,
     store: &Store,
     number: u32,
     x: &Value,
 ) -> Result<Next, NoMemory>
-    ensures means { IfOk result (AtOnce store.now.cells (subtract_rule number x.now (cell.Instance 0 []))) }
-    ensures light { IfOk result (λ next. (stack : List Frame) → IsLight stack next stack) }
+    ensures means { IfOk result (Within store.now.cells stack.new.items (subtract_rule number x.now (cell.Instance 0 [])) stack.old.items) }
+    ensures light { IfOk result (λ next. IsLight stack.new.items next stack.old.items) }
 {
     match class_method(store, number, "__sub__") {
-        Some(_) => Err(NoMemory),
+        Some(callee) => {
+            let after = After::Method(MethodFrame::Operator);
+            let arguments = slice::from_ref(x);
+            call(alloc, stack, number, callee, arguments, after)
+        }
         None => less(alloc, store, number, x),
     }
 }

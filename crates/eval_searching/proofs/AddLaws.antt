@@ -20,7 +20,7 @@ use Rattle.language_rules.specs.PlainItems.{number}
 use Rattle.language_rules.specs.Running.{runs}
 use Rattle.language_rules.specs.Searching.{reads_list}
 use Rattle.language_rules.specs.States.{State}
-use Rattle.eval_exprs.proofs.Shapes.{each_plain, each_value}
+use Rattle.eval_frames.proofs.Shapes.{each_plain, each_value}
 use Rattle.eval_frames.proofs.Operating.{code_waits}
 use Rattle.eval_frames.specs.declared.frame.Frame.{Frame}
 use Rattle.eval_frames.specs.declared.frame.Frame.TheVariants as frame

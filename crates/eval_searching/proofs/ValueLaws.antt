@@ -47,6 +47,11 @@ pub value_stepped : (n shape i : ℕ) (x v : Value) (values : List Value) (answe
 value_stepped n shape i x v values answer h is =
     ap (values_from n shape i x) is ∙ value_found n shape i x v (drop (suc i) values) answer h ∙ placed n shape i x v values (drop (suc i) values) answer is refl
 
+pub value_stepped_ok : (i : ℕ) (x v : Value) (values : List Value) (r : Result (Option Bool) NoMemory) → IfOk r (λ found. IsFound x v found) → drop i values ≡ v ∷ drop (suc i) values
+    → IfOk r (λ found. (n shape : ℕ) → values_from n shape i x (drop i values) ≡ behind_value n shape i x values found)
+value_stepped_ok i x v values (Ok found) h is = λ n shape. value_stepped n shape i x v values found h is
+value_stepped_ok i x v values (Err e) h is = tt
+
 -- ---- over a stack
 
 abbrev on_found : ℕ → ℕ → ℕ → Value → Bool → RuleTree

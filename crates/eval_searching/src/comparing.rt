@@ -14,9 +14,10 @@ ghost use Rattle.language_rules.specs.Searching.{reads_list};
 ghost use Rattle.language_rules.specs.States.{State};
 ghost use Rattle.eval_searching.specs.Compared.{after_equal, at_length, by_length, is_index_error, item_of_other, told_end};
 
-use crate::asking::{ask_found, one_refers};
+use crate::asking::{ask_found, ask_within_tuples, one_refers};
 use crate::found::found_at_once;
 use crate::lengths::{changed, following, number, told_length};
+use eval_comparing::{Answer, equal_values};
 use eval_exprs::told_truth;
 use eval_frames::{EqualityFrame, Frame, ListPair, Next, operate_over, special, special_with};
 use object_operations::{Completion, Special};
@@ -24,8 +25,7 @@ use py_store::{Cell, Store};
 use rp_base::{Beyond, CmpOp, ExcKind, NoMemory, Plain, Raised, Value};
 use std::alloc::Global;
 
-/// A list is compared with another, own or not (Python Language Reference, "Comparisons"): lists have no order here. The
-/// comparison of tuples that hold references is not built yet.
+/// A list is compared with another, own or not (Python Language Reference, "Comparisons"): lists have no order here.
 pub fn compare_lists(
     alloc: Global,
     stack: &mut Vec<Frame>,
@@ -353,7 +353,7 @@ fn compare_pair(
     ensures means { IfOk result (λ n. (fixed : State) (texts : List Program) → MeansIn (stated fixed store.now.cells texts) stack.new.items n (pair_compared pair.list pair.other pair.op length position value (Some item.now)) stack.old.items) }
     ensures light { IfOk result (λ n. IsLight stack.new.items n stack.old.items) }
 {
-    match found_at_once(item, &value) {
+    match found_at_once(alloc, item, &value)? {
         Some(equal) => go_on(alloc, stack, store, pair, length, position, equal),
         None => ask_pair(alloc, stack, pair, length, position, item, &value),
     }
@@ -376,7 +376,36 @@ fn ask_pair(
     if one_refers(item, value) {
         ask_referring(alloc, stack, pair, length, position, item, value)
     } else {
-        Err(NoMemory)
+        ask_tuple(alloc, stack, pair, length, position, item, value)
+    }
+}
+
+/// Tuples that were not told apart are not compared, or an object within them is asked.
+fn ask_tuple(
+    alloc: Global,
+    stack: &mut Vec<Frame>,
+    pair: ListPair,
+    length: u64,
+    position: u64,
+    item: &Value,
+    value: &Value,
+) -> Result<Next, NoMemory>
+    requires one { (is_reference item.now || is_reference value.now) ≡ false }
+    requires apart { same_object item.now value.now ≡ false }
+    ensures means { IfOk result (λ n. (s : State) → MeansIn s stack.new.items n (pair_compared pair.list pair.other pair.op length position value.now (Some item.now)) stack.old.items) }
+    ensures light { IfOk result (λ n. IsLight stack.new.items n stack.old.items) }
+{
+    match equal_values(alloc, item, value)? {
+        Answer::Told(_) => Err(NoMemory),
+        Answer::Uneven => Ok(Next::Leave(Beyond::Compare)),
+        Answer::Asked(question) => {
+            let frame = EqualityFrame::Equal {
+                pair,
+                length,
+                position,
+            };
+            ask_within_tuples(alloc, stack, Frame::Equality(frame), question)
+        }
     }
 }
 

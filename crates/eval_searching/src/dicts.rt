@@ -1,4 +1,4 @@
-ghost use Rattle.std.specs.Prelude.{◌≡◌, ◌==◌, ◌+◌, ◌*◌, ◌≤◌, ◌||◌, ◌∷◌, true, suc, IfOk, List, drop, length, if◌then◌else◌};
+ghost use Rattle.std.specs.Prelude.{◌≡◌, ◌==◌, ◌+◌, ◌*◌, ◌≤◌, ◌||◌, ◌∷◌, false, true, suc, IfOk, List, drop, length, if◌then◌else◌};
 ghost use Rattle.rp_base.specs.declared.exceptions.Beyond.TheVariants as beyond;
 ghost use Rattle.rp_base.specs.declared.value.Value.{Value};
 ghost use Rattle.py_ast.specs.declared.program.Program.{Program};
@@ -11,10 +11,11 @@ ghost use Rattle.language_rules.specs.States.{State};
 ghost use Rattle.side_trees.specs.Trees.{Stop};
 ghost use Rattle.eval_searching.specs.Values.{value_asked};
 
-use crate::asking::{ask_found, one_refers};
+use crate::asking::{ask_found, ask_within_tuples, one_refers};
 use crate::lists::Searched;
 use crate::searching::{give_bool, give_position};
 use crate::values::{search_values_behind, search_values_from};
+use eval_comparing::{Answer, equal_values};
 use eval_exprs::told_truth;
 use eval_frames::{Frame, Next, SearchFrame};
 use object_operations::Completion;
@@ -22,8 +23,7 @@ use py_store::{Cell, Entries, Store};
 use rp_base::{Beyond, NoMemory, Plain, Value};
 use std::alloc::Global;
 
-/// Whether a value is among the values of a dict (Python Language Reference, "Membership test operations"). The comparison
-/// of tuples that hold references is not built yet.
+/// Whether a value is among the values of a dict (Python Language Reference, "Membership test operations").
 pub fn search_values(
     alloc: Global,
     stack: &mut Vec<Frame>,
@@ -53,7 +53,7 @@ fn begin_search(
     ensures means { IfOk result (λ n. (s : State) → MeansIn s stack.new.items n (gives_found (values_from dict shape 0 wanted (values_of entries.now))) stack.old.items) }
     ensures light { IfOk result (λ n. IsLight stack.new.items n stack.old.items) }
 {
-    match search_values_from(entries, 0, &wanted) {
+    match search_values_from(alloc, entries, 0, &wanted)? {
         Searched::Nowhere => Ok(give_bool(false)),
         Searched::Found(_) => Ok(give_bool(true)),
         Searched::Asked(at) => ask_first(alloc, stack, dict, shape, entries, at, wanted),
@@ -111,7 +111,37 @@ fn ask_there(
     if one_refers(&wanted, value) {
         ask_referring(alloc, stack, dict, shape, at, wanted, value)
     } else {
-        Err(NoMemory)
+        ask_tuple(alloc, stack, dict, shape, at, wanted, value)
+    }
+}
+
+/// Tuples that were not told apart are not compared, or an object within them is asked.
+fn ask_tuple(
+    alloc: Global,
+    stack: &mut Vec<Frame>,
+    dict: u32,
+    shape: u64,
+    at: usize,
+    wanted: Value,
+    value: &Value,
+) -> Result<Next, NoMemory>
+    requires { (is_reference wanted || is_reference value.now) ≡ false }
+    ensures means { IfOk result (λ n. (s : State) (others : List Value) → MeansIn s stack.new.items n (value_asked dict shape at wanted (value.now ∷ others)) stack.old.items) }
+    ensures light { IfOk result (λ n. load stack.new.items n ≤ 3 * length stack.old.items + 9) }
+{
+    match equal_values(alloc, &wanted, value)? {
+        Answer::Told(_) => Err(NoMemory),
+        Answer::Uneven => Ok(Next::Leave(Beyond::Compare)),
+        Answer::Asked(question) => {
+            let position = at as u64;
+            let frame = SearchFrame::Values {
+                dict,
+                shape,
+                position,
+                wanted,
+            };
+            ask_within_tuples(alloc, stack, Frame::Search(frame), question)
+        }
     }
 }
 
@@ -214,7 +244,7 @@ fn search_on(
     ensures means { IfOk result (λ n. (s : State) → MeansIn s stack.new.items n (values_from dict shape (suc position) wanted (drop (suc position) (values_of entries.now))) stack.old.items) }
     ensures light { IfOk result (λ n. IsLight stack.new.items n stack.old.items) }
 {
-    match search_values_behind(entries, position, &wanted) {
+    match search_values_behind(alloc, entries, position, &wanted)? {
         Searched::Nowhere => Ok(Next::Give(Completion::Gives(Value::Plain(Plain::None)))),
         Searched::Found(at) => Ok(give_position(at as u64)),
         Searched::Asked(at) => ask_value(alloc, stack, dict, shape, entries, at, wanted),

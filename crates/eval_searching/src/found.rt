@@ -1,46 +1,49 @@
-ghost use Rattle.std.specs.Prelude.{◌≡◌, false};
-ghost use Rattle.language_rules.specs.Comparing.{same_identity, same_object};
+ghost use Rattle.std.specs.Prelude.{◌≡◌, ◌||◌, IfOk, false};
+ghost use Rattle.language_rules.specs.Comparing.{same_object};
+ghost use Rattle.language_rules.specs.Kinds.{is_reference};
 ghost use Rattle.eval_searching.specs.Searched.{IsFound};
 
-use rp_base::{IdPack, Value, equal};
+use crate::asking::one_refers;
+use eval_comparing::{Answer, equal_values, same_object};
+use rp_base::{NoMemory, Value};
+use std::alloc::Global;
 
-/// Whether a value is found in an item: they are one object, or equal plain values. Without an answer one of the two has
-/// to be asked, or they are compared as tuples.
-pub(crate) fn found_at_once(wanted: &Value, item: &Value) -> Option<bool>
-    ensures { IsFound wanted.now item.now result }
+/// Whether a value is found in an item: they are one object, or equal. Without an answer an object has to be asked, or
+/// they are tuples that are not compared.
+pub(crate) fn found_at_once(
+    alloc: Global,
+    wanted: &Value,
+    item: &Value,
+) -> Result<Option<bool>, NoMemory>
+    ensures { IfOk result (λ found. IsFound wanted.now item.now found) }
 {
     if same_object(wanted, item) {
-        Some(true)
+        Ok(Some(true))
     } else {
-        equal_at_once(wanted, item)
+        equal_at_once(alloc, wanted, item)
     }
 }
 
-fn equal_at_once(wanted: &Value, item: &Value) -> Option<bool>
+fn equal_at_once(alloc: Global, wanted: &Value, item: &Value) -> Result<Option<bool>, NoMemory>
     requires { same_object wanted.now item.now ≡ false }
-    ensures { IsFound wanted.now item.now result }
+    ensures { IfOk result (λ found. IsFound wanted.now item.now found) }
 {
-    match (wanted, item) {
-        (Value::Plain(a), Value::Plain(b)) => Some(equal(a, b)),
-        _ => None,
+    if one_refers(wanted, item) {
+        Ok(None)
+    } else {
+        compare_at_once(alloc, wanted, item)
     }
 }
 
-/// Whether two values refer to one object.
-fn same_object(left: &Value, right: &Value) -> bool
-    ensures { result ≡ same_object left.now right.now }
+/// Two values that refer to no object.
+fn compare_at_once(alloc: Global, wanted: &Value, item: &Value) -> Result<Option<bool>, NoMemory>
+    requires apart { same_object wanted.now item.now ≡ false }
+    requires unasked { (is_reference wanted.now || is_reference item.now) ≡ false }
+    ensures { IfOk result (λ found. IsFound wanted.now item.now found) }
 {
-    match (left, right) {
-        (Value::Own(a), Value::Own(b)) => *a == *b,
-        (Value::Proxy(a), Value::Proxy(b)) => same_identity(a, b),
-        _ => false,
+    match equal_values(alloc, wanted, item)? {
+        Answer::Told(holds) => Ok(Some(holds)),
+        Answer::Uneven => Ok(None),
+        Answer::Asked(_) => Ok(None),
     }
-}
-
-fn same_identity(left: &IdPack, right: &IdPack) -> bool
-    ensures { result ≡ same_identity left.now right.now }
-{
-    left.name.as_str() == right.name.as_str()
-        && left.class_no == right.class_no
-        && left.inst_no == right.inst_no
 }

@@ -35,7 +35,8 @@ pub fn index_list(
     ensures means { IfOk result (λ n. (fixed : State) (texts : List Program) → MeansIn (stated fixed store.now.cells texts) stack.new.items n (bind (searches_list list wanted) (through_search search_frame.Index)) stack.old.items) }
     ensures light { IfOk result (λ n. IsLight stack.new.items n stack.old.items) }
 {
-    match search_whole(store, list, &wanted) {
+    let searched = search_whole(alloc, store, list, &wanted)?;
+    match searched {
         Searched::Nowhere => refuse_place(alloc),
         Searched::Found(at) => Ok(give_position(at as u64)),
         Searched::Asked(at) => {
@@ -57,7 +58,8 @@ pub fn remove_from_list(
     ensures means { IfOk result (λ n. (fixed : State) (texts : List Program) → MeansOver (stated fixed store.old.cells texts) (stated fixed store.new.cells texts) stack.new.items n (bind (searches_list list wanted) (through_search (search_frame.Remove list))) stack.old.items) }
     ensures light { IfOk result (λ n. IsLight stack.new.items n stack.old.items) }
 {
-    match search_whole(store, list, &wanted) {
+    let searched = search_whole(alloc, store, list, &wanted)?;
+    match searched {
         Searched::Nowhere => refuse_place(alloc),
         Searched::Found(at) => Ok(remove_at(store, list, at as u128)),
         Searched::Asked(at) => ask_over(
@@ -73,12 +75,17 @@ pub fn remove_from_list(
 }
 
 /// Searches the items of a list from the first on, as far as no object has to be asked.
-fn search_whole(store: &Store, list: u32, wanted: &Value) -> Searched
+fn search_whole(
+    alloc: Global,
+    store: &Store,
+    list: u32,
+    wanted: &Value,
+) -> Result<Searched, NoMemory>
     requires { IsList store.now.cells list }
-    ensures { (items : List Value) → cell_of store.now.cells list ≡ Some (cell.List items) → searches_from list 0 wanted.now items ≡ left_of_search list wanted.now items result }
+    ensures { IfOk result (λ r. (items : List Value) → cell_of store.now.cells list ≡ Some (cell.List items) → searches_from list 0 wanted.now items ≡ left_of_search list wanted.now items r) }
 {
     match store.get(list) {
-        Some(Cell::List(items)) => search_from(items.as_slice(), 0, wanted),
+        Some(Cell::List(items)) => search_from(alloc, items.as_slice(), 0, wanted),
         _ => unreachable!(),
     }
 }

@@ -1,4 +1,4 @@
-ghost use Rattle.std.specs.Prelude.{◌≡◌, ◌+◌, ◌*◌, ◌≤◌, ◌∷◌, ◌||◌, true, ℕ, suc, IfOk, List, drop, length};
+ghost use Rattle.std.specs.Prelude.{◌≡◌, ◌+◌, ◌*◌, ◌≤◌, ◌∷◌, ◌||◌, false, true, ℕ, suc, IfOk, List, drop, length};
 ghost use Rattle.py_ast.specs.declared.program.Program.{Program};
 ghost use Rattle.eval_frames.specs.declared.frame.Frame.{Frame};
 ghost use Rattle.eval_frames.specs.ListFrames.{through_search};
@@ -13,10 +13,11 @@ ghost use Rattle.language_rules.specs.Searching.{gives_position, reads_list, sea
 ghost use Rattle.language_rules.specs.States.{State};
 ghost use Rattle.eval_searching.specs.Searched.{item_asked};
 
-use crate::asking::{ask_found, one_refers};
+use crate::asking::{ask_found, ask_within_tuples, one_refers};
 use crate::dicts::give_value;
 use crate::lists::{Searched, search_behind, search_from};
 use crate::places::{give_index, give_removed};
+use eval_comparing::{Answer, equal_values};
 use eval_exprs::told_truth;
 use eval_frames::{Frame, Next, SearchFrame};
 use object_operations::Completion;
@@ -24,8 +25,7 @@ use py_store::{Cell, Store};
 use rp_base::{Beyond, NoMemory, Plain, Value};
 use std::alloc::Global;
 
-/// Whether a value is in a list (Python Language Reference, "Membership test operations"). The comparison of tuples that
-/// hold references is not built yet.
+/// Whether a value is in a list (Python Language Reference, "Membership test operations").
 pub fn search_list(
     alloc: Global,
     stack: &mut Vec<Frame>,
@@ -52,7 +52,7 @@ fn begin_search(
     ensures means { IfOk result (λ n. (s : State) → MeansIn s stack.new.items n (gives_found (searches_from list 0 wanted items.now)) stack.old.items) }
     ensures light { IfOk result (λ n. IsLight stack.new.items n stack.old.items) }
 {
-    match search_from(items, 0, &wanted) {
+    match search_from(alloc, items, 0, &wanted)? {
         Searched::Nowhere => Ok(give_bool(false)),
         Searched::Found(_) => Ok(give_bool(true)),
         Searched::Asked(at) => ask_first(alloc, stack, list, items, at, wanted),
@@ -114,7 +114,35 @@ fn ask_there(
     if one_refers(&wanted, item) {
         ask_referring(alloc, stack, list, at, wanted, item)
     } else {
-        Err(NoMemory)
+        ask_tuple(alloc, stack, list, at, wanted, item)
+    }
+}
+
+/// Tuples that were not told apart are not compared, or an object within them is asked.
+fn ask_tuple(
+    alloc: Global,
+    stack: &mut Vec<Frame>,
+    list: u32,
+    at: usize,
+    wanted: Value,
+    item: &Value,
+) -> Result<Next, NoMemory>
+    requires { (is_reference wanted || is_reference item.now) ≡ false }
+    ensures means { IfOk result (λ n. (s : State) (others : List Value) → MeansIn s stack.new.items n (item_asked list at wanted (item.now ∷ others)) stack.old.items) }
+    ensures light { IfOk result (λ n. load stack.new.items n ≤ 3 * length stack.old.items + 9) }
+{
+    match equal_values(alloc, &wanted, item)? {
+        Answer::Told(_) => Err(NoMemory),
+        Answer::Uneven => Ok(Next::Leave(Beyond::Compare)),
+        Answer::Asked(question) => {
+            let position = at as u64;
+            let frame = SearchFrame::List {
+                list,
+                position,
+                wanted,
+            };
+            ask_within_tuples(alloc, stack, Frame::Search(frame), question)
+        }
     }
 }
 
@@ -248,7 +276,7 @@ fn search_on(
     ensures means { IfOk result (λ n. (s : State) → MeansIn s stack.new.items n (searches_from list (suc position) wanted (drop (suc position) items.now)) stack.old.items) }
     ensures light { IfOk result (λ n. IsLight stack.new.items n stack.old.items) }
 {
-    match search_behind(items, position, &wanted) {
+    match search_behind(alloc, items, position, &wanted)? {
         Searched::Nowhere => Ok(Next::Give(Completion::Gives(Value::Plain(Plain::None)))),
         Searched::Found(at) => Ok(give_position(at as u64)),
         Searched::Asked(at) => ask_item(alloc, stack, list, items, at, wanted),

@@ -1,3 +1,4 @@
 pub mod InstanceTexts
 pub mod PartLaws
 pub mod StackLaws
+pub mod TupleItems

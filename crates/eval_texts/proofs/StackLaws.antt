@@ -186,3 +186,9 @@ pub value_asked : (n shape i : ℕ) (entries : EntryList) (v : Value) (made : Li
 value_asked n shape i entries v made (Ok nx) now stack is h = λ s.
     value_placed n shape i i entries v made (λ t. MeansIn s now nx t stack) is (λ next. h (λ r. DictText n shape i made r) made next s (λ r. refl))
 value_asked n shape i entries v made (Err x) now stack is h = tt
+
+-- what comes next in every state
+pub in_every_state : (t : RuleTree) (cells : List Cell) (r : Result Next NoMemory) (now before : List Frame) → IfOk r (λ n. (s : State) → MeansIn s now n t before)
+    → IfOk r (λ n. (fixed : State) (texts : List Program) → MeansIn (stated fixed cells texts) now n t before)
+in_every_state t cells (Ok n) now before h = λ fixed texts. h (stated fixed cells texts)
+in_every_state t cells (Err e) now before h = tt

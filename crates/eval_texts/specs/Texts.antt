@@ -15,6 +15,7 @@ use Rattle.language_rules.specs.Rules.{expand}
 use Rattle.language_rules.specs.States.{State}
 use Rattle.eval_frames.specs.declared.frame.Frame.{Frame}
 use Rattle.eval_frames.specs.declared.list_frames.TextFrame.{TextFrame}
+use Rattle.eval_frames.specs.declared.list_frames.TextFrame.TheVariants as text_frame
 use Rattle.eval_frames.specs.declared.next.Next.{Next}
 use Rattle.eval_frames.specs.declared.next.Next.TheVariants as next
 use Rattle.eval_frames.specs.ListFrames.{through_text}
@@ -123,6 +124,12 @@ IsLeft _ n = ⊥
 -- a frame that goes on with the text as this code does
 abbrev pub GoesOnAs : TextFrame → (Completion → Code) → Type 0
 GoesOnAs frame f = (r : Completion) → expand (f r) ≡ through_text frame r
+
+-- a frame that goes on with the text of an item
+abbrev pub TakesText : TextFrame → Type 0
+TakesText (text_frame.List n i made) = ⊤
+TakesText (text_frame.Dict n shape i made) = ⊤
+TakesText _ = ⊥
 
 -- the state in which these lists and dicts are being printed, whose innermost is the last
 abbrev pub printing_in : State → List ℕ → State

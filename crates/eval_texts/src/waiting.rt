@@ -13,12 +13,13 @@ ghost use Rattle.language_rules.specs.Searching.{reads_dict, reads_list};
 ghost use Rattle.language_rules.specs.States.{State};
 ghost use Rattle.eval_frames.specs.declared.next.Next.TheVariants as next;
 ghost use Rattle.eval_texts.specs.Shown.{shown};
-ghost use Rattle.eval_texts.specs.Texts.{GoesOnAs, IsLeft, IsLightUnlessTold, IsTextTold, first_of_dict, first_of_list, item_text, left_of_list, on_same_keys};
+ghost use Rattle.eval_texts.specs.Texts.{GoesOnAs, IsLeft, IsLightUnlessTold, IsTextTold, TakesText, first_of_dict, first_of_list, item_text, left_of_list, on_same_keys};
 
 use crate::dicts::put_entries_behind;
 use crate::lists::put_items_behind;
 use crate::parts::{put_part, reopened};
 use eval_frames::{Frame, Next, TextFrame, is_reference, operate};
+use eval_tuple_texts::{TupleText, ask_text as ask_levels, give_tuple_text, tuple_text};
 use object_operations::{Completion, Operation};
 use py_store::{Cell, Entries, Store};
 use rp_base::{Beyond, NoMemory, OpEnd, Plain, Text, Value};
@@ -46,20 +47,44 @@ pub(crate) fn left(end: OpEnd) -> Result<Next, NoMemory>
     }
 }
 
-/// An item is asked for its text, which goes to a frame. A tuple that holds a reference is not built yet.
+/// An item is asked for its text, which goes to a frame.
 pub(crate) fn ask_text(
     alloc: Global,
     stack: &mut Vec<Frame>,
     frame: TextFrame,
     item: &Value,
 ) -> Result<Next, NoMemory>
+    requires { TakesText frame }
     ensures means { IfOk result (λ n. (f : Completion → Code) (made : List ℕ) (next : List ℕ → RuleTree) (s : State) → GoesOnAs frame f → MeansIn s stack.new.items n (item_text f made item.now next) stack.old.items) }
-    ensures light { IfOk result (λ n. load stack.new.items n ≤ 3 * length stack.old.items + 3) }
+    ensures light { IfOk result (λ n. load stack.new.items n ≤ 3 * length stack.old.items + 6) }
 {
     if is_reference(item) {
         ask_object(alloc, stack, frame, item)
     } else {
-        Err(NoMemory)
+        ask_tuple(alloc, stack, frame, item)
+    }
+}
+
+/// An object within a tuple is asked for its text. The text of the tuple goes to a frame.
+fn ask_tuple(
+    alloc: Global,
+    stack: &mut Vec<Frame>,
+    frame: TextFrame,
+    item: &Value,
+) -> Result<Next, NoMemory>
+    requires { TakesText frame }
+    ensures means { IfOk result (λ n. (f : Completion → Code) (made : List ℕ) (next : List ℕ → RuleTree) (s : State) → GoesOnAs frame f → MeansIn s stack.new.items n (item_text f made item.now next) stack.old.items) }
+    ensures light { IfOk result (λ n. load stack.new.items n ≤ 3 * length stack.old.items + 6) }
+{
+    let whole = item.copy(alloc)?;
+    let shown = tuple_text(alloc, whole)?;
+    match shown {
+        TupleText::Whole(_) => Err(NoMemory),
+        TupleText::TooLong => Ok(Next::Leave(Beyond::Size)),
+        TupleText::Asked(levels, object) => {
+            stack.push(Frame::Text(frame))?;
+            ask_levels(stack, levels, object)
+        }
     }
 }
 
@@ -88,7 +113,7 @@ pub(crate) fn ask_item(
     made: String,
 ) -> Result<Next, NoMemory>
     ensures means { IfOk result (λ n. (s : State) → MeansIn s stack.new.items n (first_of_list list at (drop at items.now) (string_bytes made)) stack.old.items) }
-    ensures light { IfOk result (λ n. load stack.new.items n ≤ 3 * length stack.old.items + 3) }
+    ensures light { IfOk result (λ n. load stack.new.items n ≤ 3 * length stack.old.items + 6) }
 {
     match items.get(at) {
         Some(item) => {
@@ -114,7 +139,7 @@ pub(crate) fn ask_value(
     made: String,
 ) -> Result<Next, NoMemory>
     ensures means { IfOk result (λ n. (s : State) → MeansIn s stack.new.items n (first_of_dict dict shape at (drop at entries.now) (string_bytes made)) stack.old.items) }
-    ensures light { IfOk result (λ n. load stack.new.items n ≤ 3 * length stack.old.items + 3) }
+    ensures light { IfOk result (λ n. load stack.new.items n ≤ 3 * length stack.old.items + 6) }
 {
     if at >= entries.len() {
         return Ok(Next::Leave(Beyond::NotYet));
@@ -130,8 +155,7 @@ pub(crate) fn ask_value(
 
 // ---- what waits
 
-/// Goes on with the text of an item, or ends a printing (Python Library Reference, "Built-in Functions", `repr`). An item
-/// that is a tuple which holds a reference is not built yet.
+/// Goes on with the text of an item, or ends a printing (Python Library Reference, "Built-in Functions", `repr`).
 pub fn give_text(
     alloc: Global,
     stack: &mut Vec<Frame>,
@@ -155,7 +179,7 @@ pub fn give_text(
             position,
             made,
         } => give_dict(alloc, stack, store, dict, shape, position, made, completion),
-        TextFrame::Tuple { .. } => Err(NoMemory),
+        TextFrame::Tuple { levels } => give_tuple_text(alloc, stack, levels, completion),
         TextFrame::End => {
             printing.pop();
             Ok(Next::Give(completion))

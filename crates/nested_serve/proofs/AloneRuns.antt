@@ -19,7 +19,7 @@ spent : (fuel left here : ℕ) → left ≤ fuel → here ≡ left → fuel ≡ 
 spent fuel left here h e = omega arith
 
 -- by the end of the side's run
-by_end : (c : ScriptCourse) (fixed : State) (e : ScriptEnd) (m : Machine) (h : Halt) (fuel left : ℕ) (r : AloneRun)
+pub by_end : (c : ScriptCourse) (fixed : State) (e : ScriptEnd) (m : Machine) (h : Halt) (fuel left : ℕ) (r : AloneRun)
     → IsRunOfOne c e → Ends fixed e h m left → left ≤ fuel → IsEndOf h r.end → r.printed ≡ printed_by m → r.units ≡ fuel - left → IsRunOf c fuel r
 by_end c fixed e m (halt.Done a) fuel left r one ends less is p u =
     let k : IsRunOfOne c (Done a (state_in fixed m) left (printed_by m)) = subst (λ (x : ScriptEnd). IsRunOfOne c x) ends one in

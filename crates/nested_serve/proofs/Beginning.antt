@@ -16,11 +16,12 @@ use Rattle.eval_frames.specs.declared.frame.Frame.{Frame}
 use Rattle.eval_frames.specs.declared.next.Next.{Next}
 use Rattle.eval_frames.specs.Meaning.{Means, meant, situated}
 use Rattle.nested_serve.specs.declared.machine.Machine.{Machine}
-use Rattle.nested_serve.specs.Machines.{Begins, IsFirst, IsScriptOf, course, first_cells_of, printed_by}
+use Rattle.slave_service.specs.FirstCells.{first_cells_of}
+use Rattle.nested_serve.specs.Machines.{Begins, IsFirst, IsScriptOf, course, printed_by}
 
 -- the state of a side that has taken a text and reserved the names of its handlers
 abbrev started : Reader → Program → State
-started reader program = situated (first_state reader []) (first_cells_of program.handler_names) (program ∷ []) []
+started reader program = situated (first_state reader []) (first_cells_of program.handler_names []) (program ∷ []) []
 
 -- the names of handlers are reserved, and the body runs
 reserved : (reader : Reader) (program : Program) (units : ℕ) → runs units (text_of program) (first_state reader []) [] ≡ runs units (runs_body (top_of 0) program.root) (started reader program) []
@@ -40,7 +41,7 @@ stands reader program units ns fs n h =
 
 -- in the machine's own words
 in_machine : (reader : Reader) (program : Program) (units : ℕ) (m : Machine) (n : Next)
-    → m.store.cells ≡ first_cells_of program.handler_names → m.texts.items ≡ program ∷ [] → m.handled ≡ [] → m.printing ≡ [] → m.classes ≡ [] → printed_by m ≡ []
+    → m.store.cells ≡ first_cells_of program.handler_names [] → m.texts.items ≡ program ∷ [] → m.handled ≡ [] → m.printing ≡ [] → m.classes ≡ [] → printed_by m ≡ []
     → runs units (meant m.stack.items n) (started reader program) [] ≡ course (first_state reader []) m n units
 in_machine reader program units m n c t h g q p =
     ap (λ (cells : List Cell). runs units (meant m.stack.items n) (situated (first_state reader []) cells (program ∷ []) []) []) (sym c)
@@ -51,7 +52,7 @@ in_machine reader program units m n c t h g q p =
     ∙ ap (λ (out : List ℕ). runs units (meant m.stack.items n) (record (situated (first_state reader []) m.store.cells m.texts.items m.handled) { printed = length out; printing = reverse m.printing; classes = reverse m.classes }) out) (sym p)
 
 pub begins : (program : Program) (ns : List ℕ) (m : Machine) (n : Next) → IsScriptOf program ns
-    → m.store.cells ≡ first_cells_of program.handler_names → m.texts.items ≡ program ∷ [] → m.handled ≡ [] → m.printing ≡ [] → m.classes ≡ [] → printed_by m ≡ [] → Means m.stack.items n (executes_all (top_of 0) ns) [] → Begins program m n
+    → m.store.cells ≡ first_cells_of program.handler_names [] → m.texts.items ≡ program ∷ [] → m.handled ≡ [] → m.printing ≡ [] → m.classes ≡ [] → printed_by m ≡ [] → Means m.stack.items n (executes_all (top_of 0) ns) [] → Begins program m n
 begins program ns m n is c t h g q p does reader units =
     reserved reader program units
     ∙ body reader program units ns is

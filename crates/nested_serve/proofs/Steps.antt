@@ -1,5 +1,5 @@
 -- The steps of a machine, by those of its parts.
-use Rattle.std.proofs.Common.{◌≡◌, ◌+◌, ◌*◌, ◌≤◌, arith, ℕ, suc, Bool, List, length, reverse, slice_get, Option, Some, Result, Ok, Err, IfOk, sym, subst, ◌∙◌, ap}
+use Rattle.std.proofs.Common.{◌≡◌, ◌+◌, ◌-◌, ◌*◌, ◌≤◌, arith, ℕ, suc, Bool, List, length, reverse, slice_get, Option, Some, Result, Ok, Err, IfOk, refl, sym, subst, ◌∙◌, ap}
 use Rattle.rp_base.specs.declared.ends.NoMemory.{NoMemory}
 use Rattle.rp_base.specs.declared.value.Value.{Value}
 use Rattle.py_ast.specs.declared.name.Name.{Name}
@@ -17,10 +17,11 @@ use Rattle.language_rules.specs.Answers.{evaluated}
 use Rattle.language_rules.specs.AtOnce.{stated}
 use Rattle.language_rules.specs.Classes.{class_rule}
 use Rattle.language_rules.specs.Codes.{Completion, Env, Gives}
-use Rattle.language_rules.specs.Going.{RuleTree, on_value}
-use Rattle.language_rules.specs.Nodes.{node_rule, rule_of}
+use Rattle.language_rules.specs.Going.{RuleTree, done, on_value}
+use Rattle.language_rules.specs.Nodes.{member_node_rule, node_rule, rule_of}
 use Rattle.language_rules.specs.Perform.{perform}
-use Rattle.language_rules.specs.Running.{runs}
+use Rattle.language_rules.specs.Rules.{expand}
+use Rattle.language_rules.specs.Running.{ScriptEnd, prints_behind, runs}
 use Rattle.language_rules.specs.States.{Handling, MadeClass, State}
 use Rattle.language_rules.specs.Statements.{statement_rule}
 use Rattle.language_rules.specs.Texts.{node_of}
@@ -31,7 +32,10 @@ use Rattle.eval_frames.specs.declared.next.Next.TheVariants as next
 use Rattle.eval_texts.specs.Shown.{shown}
 use Rattle.eval_frames.specs.Meaning.{IsLight, Means, MeansIn, MeansOver, classed, decides, handling_in, load, meant, resume, rest, situated}
 use Rattle.nested_serve.specs.declared.machine.Machine.{Machine}
-use Rattle.nested_serve.specs.Machines.{GoesOn, ahead, course, printed_by}
+use Rattle.nested_serve.specs.declared.running.Progress.{Progress}
+use Rattle.nested_serve.specs.declared.running.Progress.TheVariants as progress
+use Rattle.nested_serve.specs.Machines.{Advances, Follows, GoesOn, LeavesRun, ahead, course, printed_by}
+use Rattle.nested_serve.proofs.UnitsLeft.{comes_anyhow}
 use Rattle.print_output.specs.Printed.{counted}
 
 -- ---- decisions
@@ -119,12 +123,48 @@ pub at_operation : (r : Result Next NoMemory) (before now : List Frame) (cells c
 at_operation r before now cells cells' texts handled handled' classes printing printing' printed printed' o as_told p h =
     subst (λ (x : Operation). IfOk r (λ n. Went before cells texts handled classes printing printed (perform x) now cells' handled' printing' printed' n)) (sym p) h
 
+-- a step that spends one unit
+spends_one : (m m' : Machine) (n n' : Next) (units left : ℕ) → units ≡ suc left → ((fixed : State) (more : ℕ) → course fixed m n (suc more) ≡ course fixed m' n' more) → LeavesRun m n (units - left) m' n'
+spends_one m m' n n' units left e goes fixed more =
+    let one : (units - left) + more ≡ suc more = omega (arith, e) in
+    ap {B = ScriptEnd} (λ (u : ℕ). course fixed m n u) one ∙ goes fixed more
+
 -- an operation behind its unit
 pub performs : (m m' : Machine) (o : Operation) (n : Next) (units left : ℕ) → units ≡ suc left → GoesOn m (perform o) m' n → IsLight m'.stack.items n m.stack.items
-    → ((fixed : State) → course fixed m (next.Perform o) units ≡ course fixed m' n left) × (ahead m' n left + 1 ≤ ahead m (next.Perform o) units)
-performs m m' o n units left e goes light =
-    subst (λ (u : ℕ). ((fixed : State) → course fixed m (next.Perform o) u ≡ course fixed m' n left) × (ahead m' n left + 1 ≤ ahead m (next.Perform o) u)) (sym e)
-    ((λ fixed. goes fixed left), omega (arith, light))
+    → LeavesRun m (next.Perform o) (units - left) m' n × (ahead m' n left + 1 ≤ ahead m (next.Perform o) units)
+performs m m' o n units left e goes light = (spends_one m m' (next.Perform o) n units left e goes, omega (arith, e, light))
+
+-- a node behind its unit
+pub enters : (m m' : Machine) (env : Env) (number : ℕ) (n : Next) (units left : ℕ) → units ≡ suc left → GoesOn m (node_rule env number) m' n → IsLight m'.stack.items n m.stack.items
+    → LeavesRun m (next.Enter env number) (units - left) m' n × (ahead m' n left + 1 ≤ ahead m (next.Enter env number) units)
+enters m m' env number n units left e goes light = (spends_one m m' (next.Enter env number) n units left e goes, omega (arith, e, light))
+
+-- a statement of a class body behind its unit
+pub enters_member : (m m' : Machine) (env : Env) (number : ℕ) (n : Next) (units left : ℕ) → units ≡ suc left → GoesOn m (member_node_rule env number) m' n → IsLight m'.stack.items n m.stack.items
+    → LeavesRun m (next.Member env number) (units - left) m' n × (ahead m' n left + 1 ≤ ahead m (next.Member env number) units)
+enters_member m m' env number n units left e goes light = (spends_one m m' (next.Member env number) n units left e goes, omega (arith, e, light))
+
+-- the name of a handler behind its unit
+pub names_handler : (m : Machine) (units left : ℕ) → units ≡ suc left
+    → LeavesRun m next.HandlerName (units - left) m (next.Give done) × (ahead m (next.Give done) left + 1 ≤ ahead m next.HandlerName units)
+names_handler m units left e = (spends_one m m next.HandlerName (next.Give done) units left e (λ fixed more. refl), omega (arith, e))
+
+-- a step that spends nothing, for what comes next by what it is
+follows_told : (r : Result Progress NoMemory) (m m' : Machine) (n : Next) (units : ℕ) → IfOk r (λ p. (u : ℕ) → Follows m n u p m') → IfOk r (λ p. Advances m n units p m' units)
+follows_told (Ok (progress.On further)) m m' n units h =
+    ((λ fixed more. let none : (units - units) + more ≡ more = omega arith in ap {B = ScriptEnd} (λ (u : ℕ). course fixed m n u) none ∙ (h more).0 fixed), (h units).1)
+follows_told (Ok (progress.Halted b)) m m' n units h = h units
+follows_told (Err e) m m' n units h = tt
+
+pub follows : (r : Result Progress NoMemory) (m m' : Machine) (n as_told : Next) (units : ℕ) → n ≡ as_told → IfOk r (λ p. (u : ℕ) → Follows m as_told u p m') → IfOk r (λ p. Advances m n units p m' units)
+follows r m m' n as_told units is h = subst (λ (x : Next). IfOk r (λ p. Advances m x units p m' units)) (sym is) (follows_told r m m' as_told units h)
+
+-- a step of a run that is under way
+pub on_the_way : (first m m' : Machine) (begun n n' : Next) (given units left : ℕ) → ((fixed : State) → course fixed first begun given ≡ course fixed m n units) → LeavesRun m n (units - left) m' n' → left ≤ units
+    → (fixed : State) → course fixed first begun given ≡ course fixed m' n' left
+on_the_way first m m' begun n n' given units left before leaves less fixed =
+    let all : units ≡ (units - left) + left = omega (arith, less) in
+    before fixed ∙ ap {B = ScriptEnd} (λ (u : ℕ). course fixed m n u) all ∙ leaves fixed left
 
 -- ---- statements
 
@@ -256,10 +296,11 @@ printed_less before now n units h = omega (arith, h)
 -- a node that came to an end at once, over what waits
 pub carried_out : (m : Machine) (store : Cells) (env : Env) (number units left : ℕ) (a : Completion) (as_lent : List Program) → as_lent ≡ m.texts.items
     → ((fixed : State) → ComesTo (evaluated env number) (stated fixed m.store.cells as_lent) units a (stated fixed store.cells as_lent) left) → left + 1 ≤ units
-    → ((fixed : State) → course fixed m (next.Enter env number) units ≡ course fixed (record m { store = store }) (next.Give a) left) × (ahead (record m { store = store }) (next.Give a) left + 1 ≤ ahead m (next.Enter env number) units)
+    → LeavesRun m (next.Enter env number) (units - left) (record m { store = store }) (next.Give a) × (ahead (record m { store = store }) (next.Give a) left + 1 ≤ ahead m (next.Enter env number) units)
 carried_out m store env number units left a as_lent p comes less = (
-  (λ fixed.
+  (λ fixed more.
       let k : (s : State) → ComesTo (evaluated env number) (stated s m.store.cells m.texts.items) units a (stated s store.cells m.texts.items) left = subst (λ (ts : List Program). (s : State) → ComesTo (evaluated env number) (stated s m.store.cells ts) units a (stated s store.cells ts) left) p comes in
-      k (record fixed { printed = length (printed_by m); handled = reverse m.handled; printing = reverse m.printing; classes = reverse m.classes }) (rest (reverse m.stack.items)) (printed_by m)),
+      let s : State = record fixed { printed = length (printed_by m); handled = reverse m.handled; printing = reverse m.printing; classes = reverse m.classes } in
+      comes_anyhow expand prints_behind units left more (evaluated env number) (stated s m.store.cells m.texts.items) (stated s store.cells m.texts.items) (printed_by m) a (rest (reverse m.stack.items)) (λ j. k s j (printed_by m))),
   omega (arith, less),
 )

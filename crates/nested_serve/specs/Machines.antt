@@ -1,22 +1,20 @@
 -- What a machine's steps do: no run tells a machine and what it does next from the one after a step.
-use Rattle.std.specs.Prelude.{◌≡◌, ◌+◌, ◌*◌, ◌≤◌, ℕ, [], ◌∷◌, List, Option, Some, None, Result, Ok, Err, length, reverse, slice_get, string_bytes}
+use Rattle.std.specs.Prelude.{◌≡◌, ◌+◌, ◌-◌, ◌*◌, ◌≤◌, ℕ, [], ◌∷◌, List, Option, Some, None, Result, Ok, Err, length, reverse, slice_get, string_bytes}
 use Rattle.rp_base.specs.declared.value.Value.{Value}
 use Rattle.py_ast.specs.declared.node.Node.{Node}
 use Rattle.py_ast.specs.declared.node.Node.TheVariants as node
 use Rattle.py_ast.specs.declared.program.Program.{Program}
 use Rattle.py_ast.specs.declared.statement.Statement.TheVariants as statement
-use Rattle.py_store.specs.declared.cell.Cell.{Cell}
-use Rattle.py_store.specs.declared.cell.Cell.TheVariants as cell
 use Rattle.side_trees.specs.Trees.{Return, Done, Stopped, NoFuel, bind}
 use Rattle.language_rules.specs.Codes.{Completion, Env, Gives}
 use Rattle.language_rules.specs.Going.{RuleTree, on_value}
 use Rattle.language_rules.specs.Running.{ScriptEnd, runs}
-use Rattle.language_rules.specs.Programs.{with_names}
 use Rattle.language_rules.specs.Starting.{Reader, first_state, text_of}
 use Rattle.language_rules.specs.States.{State}
 use Rattle.eval_frames.specs.declared.next.Next.{Next}
 use Rattle.eval_frames.specs.declared.next.Next.TheVariants as next
 use Rattle.eval_frames.specs.Meaning.{load, meant, rest, situated}
+use Rattle.slave_service.specs.FirstCells.{first_cells_of}
 use Rattle.nested_serve.specs.declared.machine.Halt.{Halt}
 use Rattle.nested_serve.specs.declared.machine.Halt.TheVariants as halt
 use Rattle.nested_serve.specs.declared.machine.Machine.{Machine}
@@ -64,11 +62,21 @@ Halts before n units h now left = (fixed : State) → Ends fixed (course fixed b
 abbrev pub ahead : Machine → Next → ℕ → ℕ
 ahead m n units = 20 * units + load m.stack.items n
 
+-- Whatever units more there are, with those that were spent the run is what comes next with those more.
+abbrev pub LeavesRun : Machine → Next → ℕ → Machine → Next → Type 0
+LeavesRun before n spent now further = (fixed : State) (more : ℕ) → course fixed before n (spent + more) ≡ course fixed now further more
+
 -- a step leaves the run as it is and comes nearer to its end, or is at the end
 abbrev pub Advances : Machine → Next → ℕ → Progress → Machine → ℕ → Type 0
 Advances before n units (progress.On further) now left =
-    ((fixed : State) → course fixed before n units ≡ course fixed now further left) × (ahead now further left + 1 ≤ ahead before n units)
+    LeavesRun before n (units - left) now further × (ahead now further left + 1 ≤ ahead before n units)
 Advances before n units (progress.Halted h) now left = Halts before n units h now left
+
+-- The same of a step that spends nothing, with so many units.
+abbrev pub Follows : Machine → Next → ℕ → Progress → Machine → Type 0
+Follows before n units (progress.On further) now =
+    ((fixed : State) → course fixed before n units ≡ course fixed now further units) × (ahead now further units + 1 ≤ ahead before n units)
+Follows before n units (progress.Halted h) now = Halts before n units h now units
 
 -- the node of this number was carried out; or nothing was done
 abbrev pub IsCarriedOut : Machine → Env → ℕ → ℕ → Option Next → Machine → ℕ → Type 0
@@ -90,13 +98,9 @@ abbrev pub AreRoot : Option (List ℕ) → Option Node → Type 0
 AreRoot (Some statements) root = root ≡ Some (node.Statement (statement.Suite statements))
 AreRoot None root = Unit {0}
 
--- the namespace, in which these names of handlers are reserved, and the root
-abbrev pub first_cells_of : List (List ℕ) → List Cell
-first_cells_of names = cell.Namespace [] (with_names names []) ∷ cell.Root ∷ []
-
 -- the first cells, this one text, nothing that waits or is being handled, no class, and nothing printed
 pub record IsFirst (program : Program) (m : Machine) : Type 0 where
-  pub cells : m.store.cells ≡ first_cells_of program.handler_names
+  pub cells : m.store.cells ≡ first_cells_of program.handler_names []
   pub texts : m.texts.items ≡ program ∷ []
   pub idle : m.stack.items ≡ []
   pub handled : m.handled ≡ []

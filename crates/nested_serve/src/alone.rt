@@ -5,8 +5,10 @@ ghost use Rattle.language_rules.specs.OneInterpreter.{EndsDone, end_of_script};
 ghost use Rattle.eval_frames.specs.declared.next.Next.{Next};
 ghost use Rattle.nested_serve.specs.declared.machine.Machine.{Machine};
 ghost use Rattle.nested_serve.specs.Alone.{IsEndOf, IsRunAlone, end_of_run};
+ghost use Rattle.nested_serve.specs.Endpoints.{told_end};
 ghost use Rattle.nested_serve.specs.Machines.{Begins, Halts, printed_by};
 
+use crate::endpoint::TextEnd;
 use crate::machine::{Halt, Machine};
 use crate::running::run;
 use crate::starting::begin;
@@ -60,22 +62,31 @@ fn end_of(halt: Halt) -> AloneEnd
     ensures { IsEndOf halt result }
 {
     match halt {
-        Halt::Done(completion) => end_of_text(completion),
+        Halt::Done(completion) => told_end(end_of_text(completion)),
         Halt::OutOfFuel => AloneEnd::OutOfFuel,
         Halt::Beyond(beyond) => AloneEnd::Beyond(beyond),
     }
 }
 
+fn told_end(end: TextEnd) -> AloneEnd
+    ensures { result ≡ told_end end }
+{
+    match end {
+        TextEnd::Done => AloneEnd::Done,
+        TextEnd::Raised(raised) => AloneEnd::Raised(raised),
+    }
+}
+
 /// What a text gives is not kept.
-fn end_of_text(completion: Completion) -> AloneEnd
-    ensures { end_of_run result ≡ end_of_script A completion EndsDone }
+pub(crate) fn end_of_text(completion: Completion) -> TextEnd
+    ensures { end_of_run (told_end result) ≡ end_of_script A completion EndsDone }
 {
     match completion {
-        Completion::Raises(raised) => AloneEnd::Raised(raised),
+        Completion::Raises(raised) => TextEnd::Raised(raised),
         Completion::Gives(_)
         | Completion::Returns(_)
         | Completion::Breaks
         | Completion::Continues
-        | Completion::Drained(_) => AloneEnd::Done,
+        | Completion::Drained(_) => TextEnd::Done,
     }
 }

@@ -10,11 +10,11 @@ ghost use Rattle.language_rules.specs.Going.{on_value};
 ghost use Rattle.nested_serve.specs.Machines.{IsValueOf};
 
 use eval_calls::{empty_call, end_call};
-use eval_comparing::{decide_found, decide_pairs};
+use eval_comparing::{decide_levels, give_comparison};
 use eval_draining::give_drain;
 use eval_exprs::{
     ask_truth, decide_and, decide_bool, decide_conditional, decide_link, decide_not, decide_or,
-    give_comparison, give_expression, give_operation, told_truth,
+    give_expression, give_operation, told_truth,
 };
 use eval_frames::{
     Decision, ExpressionFrame, Frame, MethodFrame, Next, StatementFrame, TargetFrame,
@@ -73,6 +73,7 @@ pub fn give(
     }
 }
 
+#[inline(never)]
 fn give_to_expression(
     alloc: Global,
     stack: &mut Vec<Frame>,
@@ -89,6 +90,7 @@ fn give_to_expression(
     }
 }
 
+#[inline(never)]
 fn give_to_method(
     alloc: Global,
     stack: &mut Vec<Frame>,
@@ -105,6 +107,7 @@ fn give_to_method(
     }
 }
 
+#[inline(never)]
 fn give_to_statement(
     alloc: Global,
     stack: &mut Vec<Frame>,
@@ -122,6 +125,7 @@ fn give_to_statement(
     }
 }
 
+#[inline(never)]
 fn give_to_target(
     alloc: Global,
     stack: &mut Vec<Frame>,
@@ -156,6 +160,7 @@ fn give_to_test(
 }
 
 /// The answer to a question for a truth decides.
+#[inline(never)]
 fn give_to_truth(
     alloc: Global,
     stack: &mut Vec<Frame>,
@@ -223,10 +228,7 @@ fn decide(
         Decision::Or { env, next, waiting } => decide_or(stack, env, next, waiting, value, holds),
         Decision::And { env, next, waiting } => decide_and(stack, env, next, waiting, value, holds),
         Decision::Not => Ok(decide_not(holds)),
-        Decision::Pairs { waiting } => decide_pairs(alloc, stack, waiting, holds),
-        Decision::Found { wanted, waiting } => {
-            decide_found(alloc, stack, wanted, waiting, holds)
-        }
+        Decision::Levels { levels } => decide_levels(alloc, stack, levels, holds),
         Decision::Bool => Ok(decide_bool(holds)),
         Decision::Conditional {
             env,

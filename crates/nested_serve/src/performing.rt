@@ -2,7 +2,7 @@ ghost use Rattle.std.specs.Prelude.{◌≤◌, ℕ, IfOk};
 ghost use Rattle.eval_frames.specs.declared.next.Next.TheVariants as next;
 ghost use Rattle.eval_frames.specs.Meaning.{IsLight};
 ghost use Rattle.language_rules.specs.Perform.{perform};
-ghost use Rattle.nested_serve.specs.Machines.{Advances, GoesOn};
+ghost use Rattle.nested_serve.specs.Machines.{Advances, Follows, GoesOn};
 
 use crate::machine::{Halt, Machine};
 use crate::running::Progress;
@@ -19,6 +19,7 @@ use std::alloc::Global;
 const MOST_CELLS: u32 = 4_000_000_000;
 
 /// An operation on an own cell begins, where a unit is left.
+#[inline(never)]
 pub(crate) fn advance_performing(
     alloc: Global,
     machine: &mut Machine,
@@ -79,8 +80,9 @@ fn begin_operation(
 }
 
 /// A new cell is made, which is the value.
+#[inline(never)]
 pub(crate) fn advance_making(machine: &mut Machine, cell: Cell) -> Result<Progress, NoMemory>
-    ensures { IfOk result (λ advance. (units : ℕ) → Advances machine.old (next.Make cell) units advance machine.new units) }
+    ensures { IfOk result (λ advance. (units : ℕ) → Follows machine.old (next.Make cell) units advance machine.new) }
 {
     if machine.store.size() >= MOST_CELLS {
         return Err(NoMemory);

@@ -7,7 +7,7 @@ ghost use Rattle.eval_frames.specs.ListFrames.{through_text};
 ghost use Rattle.eval_frames.specs.ObjectFrames.{through_printing};
 ghost use Rattle.language_rules.specs.Going.{on_value};
 ghost use Rattle.language_rules.specs.Nodes.{member_node_rule, node_rule};
-ghost use Rattle.nested_serve.specs.Machines.{Advances, GoesOn, Halts};
+ghost use Rattle.nested_serve.specs.Machines.{Advances, Follows, GoesOn, Halts};
 
 use crate::at_once::carry_out;
 use crate::entering::enter;
@@ -33,7 +33,7 @@ pub enum Progress {
 }
 
 /// One step, for which a unit may be due. That the other side is asked is not built yet.
-fn advance(
+pub(crate) fn advance(
     alloc: Global,
     machine: &mut Machine,
     next: Next,
@@ -73,6 +73,7 @@ fn advance_into(
 }
 
 /// A node begins, where a unit is left, and its parts by themselves.
+#[inline(never)]
 fn advance_by_frames(
     alloc: Global,
     machine: &mut Machine,
@@ -93,6 +94,7 @@ fn advance_by_frames(
 }
 
 /// A statement of a class body begins, where a unit is left.
+#[inline(never)]
 fn advance_member(
     machine: &mut Machine,
     env: Env,
@@ -127,7 +129,7 @@ fn advance_with(
     machine: &mut Machine,
     completion: Completion,
 ) -> Result<Progress, NoMemory>
-    ensures { IfOk result (λ advance. (units : ℕ) → Advances machine.old (next.Give completion) units advance machine.new units) }
+    ensures { IfOk result (λ advance. (units : ℕ) → Follows machine.old (next.Give completion) units advance machine.new) }
 {
     match machine.stack.pop() {
         Some(frame) => Ok(Progress::On(give_frame(alloc, machine, frame, completion)?)),
@@ -135,12 +137,13 @@ fn advance_with(
     }
 }
 
+#[inline(never)]
 fn advance_printing(
     alloc: Global,
     machine: &mut Machine,
     values: Items<Value>,
 ) -> Result<Progress, NoMemory>
-    ensures { IfOk result (λ advance. (units : ℕ) → Advances machine.old (next.Print values) units advance machine.new units) }
+    ensures { IfOk result (λ advance. (units : ℕ) → Follows machine.old (next.Print values) units advance machine.new) }
 {
     let next = print(alloc, &mut machine.stack, &mut machine.printed, values)?;
     Ok(Progress::On(next))
@@ -153,6 +156,7 @@ fn begin_member_of(machine: &mut Machine, env: Env, number: u32) -> Result<Next,
     begin_member(&mut machine.stack, &machine.texts, env, number)
 }
 
+#[inline(never)]
 fn begin_node(alloc: Global, machine: &mut Machine, env: Env, number: u32) -> Result<Next, NoMemory>
     ensures means { IfOk result (λ next. GoesOn machine.old (node_rule env number) machine.new next) }
     ensures light { IfOk result (λ next. IsLight machine.new.stack.items next machine.old.stack.items) }
@@ -219,6 +223,7 @@ fn give_frame(
     }
 }
 
+#[inline(never)]
 fn give_to_handler(
     alloc: Global,
     machine: &mut Machine,
@@ -238,6 +243,7 @@ fn give_to_handler(
     )
 }
 
+#[inline(never)]
 fn give_to_printing(
     alloc: Global,
     machine: &mut Machine,
@@ -256,6 +262,7 @@ fn give_to_printing(
     )
 }
 
+#[inline(never)]
 fn give_to_text(
     alloc: Global,
     machine: &mut Machine,
@@ -275,6 +282,7 @@ fn give_to_text(
     )
 }
 
+#[inline(never)]
 fn give_to_class(
     alloc: Global,
     machine: &mut Machine,

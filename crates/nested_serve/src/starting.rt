@@ -1,14 +1,13 @@
 ghost use Rattle.std.specs.Prelude.{◌≡◌, IfOk, option_copied, reverse, slice_get};
-ghost use Rattle.nested_serve.specs.Machines.{AreRoot, Begins, IsFirst, IsScriptOf, first_cells_of};
+ghost use Rattle.nested_serve.specs.Machines.{AreRoot, Begins, IsFirst, IsScriptOf};
 
 use crate::machine::Machine;
 use eval_frames::{Next, waiting_numbers};
-use eval_handlers::reserved_names;
 use eval_stmts::execute_further;
 use object_operations::Env;
 use py_ast::{Node, Program, Statement};
-use py_store::{Cell, Store};
-use rp_base::{NoMemory, Side, Text};
+use rp_base::{NoMemory, Side};
+use slave_service::start;
 use sqlite_items::Items;
 use std::alloc::Global;
 
@@ -53,7 +52,7 @@ fn root_statements(program: &Program) -> Option<&[u32]>
 fn first_machine(alloc: Global, program: Program) -> Result<Machine, NoMemory>
     ensures { IfOk result (λ machine. IsFirst program machine) }
 {
-    let store = first_store(alloc, program.handler_names.as_slice())?;
+    let store = start(alloc, Side::A, program.handler_names.as_slice(), 0)?;
     let mut texts = Vec::new(alloc);
     texts.push(program)?;
     Ok(Machine {
@@ -65,18 +64,4 @@ fn first_machine(alloc: Global, program: Program) -> Result<Machine, NoMemory>
         classes: Items::new(alloc),
         printed: String::new(alloc),
     })
-}
-
-/// The namespace, in which these names of handlers are reserved, and the root.
-fn first_store(alloc: Global, names: &[Text]) -> Result<Store, NoMemory>
-    ensures { IfOk result (λ store. store.cells ≡ first_cells_of names.now) }
-{
-    let reserved = reserved_names(alloc, names)?;
-    let mut store = Store::new(alloc, Side::A);
-    store.make(Cell::Namespace {
-        names: Items::new(alloc),
-        reserved,
-    })?;
-    store.make(Cell::Root)?;
-    Ok(store)
 }

@@ -5,23 +5,30 @@ use Rattle.rp_base.specs.declared.ends.NoMemory.{NoMemory}
 use Rattle.rp_base.specs.declared.ends.OpEnd.{OpEnd}
 use Rattle.rp_base.specs.declared.ends.OpEnd.TheVariants as op_end
 use Rattle.rp_base.specs.declared.exceptions.Beyond.{Beyond}
+use Rattle.rp_base.specs.declared.exceptions.Beyond.TheVariants as beyond
 use Rattle.rp_base.specs.declared.value.Value.{Value}
 use Rattle.rp_base.specs.declared.value.Value.TheVariants as value
 use Rattle.object_operations.specs.declared.operation.Operation.TheVariants as operation
 use Rattle.side_trees.specs.Trees.{Return, Stop, bind}
-use Rattle.language_rules.specs.Codes.{Give}
+use Rattle.language_rules.specs.Codes.{Give, Leaves, Step}
 use Rattle.language_rules.specs.Going.{RuleTree, asked_step, carry, done}
 use Rattle.language_rules.specs.Kinds.{is_reference}
 use Rattle.language_rules.specs.Output.{prints, prints_further, writes, writes_line_end}
-use Rattle.language_rules.specs.Printing.{on_str, on_text}
+use Rattle.language_rules.specs.Printing.{gives_text, on_str, on_text, repr_step}
 use Rattle.language_rules.specs.Running.{runs}
+use Rattle.language_rules.specs.States.{State}
 use Rattle.eval_frames.proofs.Operating.{operates_bound}
 use Rattle.eval_frames.specs.declared.frame.Frame.{Frame}
 use Rattle.eval_frames.specs.declared.frame.Frame.TheVariants as frame
 use Rattle.eval_frames.specs.declared.next.Next.{Next}
 use Rattle.eval_frames.specs.declared.next.Next.TheVariants as next
 use Rattle.eval_frames.specs.declared.object_frames.PrintingFrame.TheVariants as printing_frame
-use Rattle.eval_frames.specs.Meaning.{Means, operates_over, rest}
+use Rattle.eval_frames.specs.Meaning.{Means, MeansIn, operates_over, rest}
+use Rattle.eval_frames.specs.declared.list_frames.TupleLevel.{TupleLevel}
+use Rattle.eval_tuple_texts.proofs.TextLaws.{text_goes_on}
+use Rattle.eval_tuple_texts.specs.TextLevels.{Shows, texts_around}
+use Rattle.eval_tuple_texts.specs.declared.tuples.TupleText.{TupleText}
+use Rattle.eval_tuple_texts.specs.declared.tuples.TupleText.TheVariants as tuple_text
 use Rattle.print_output.specs.Printed.{PrintsAs, PrintsOver, PrintsTo, RunsOn, counted, left_behind, left_to_print, prints_from}
 
 -- ---- one after another
@@ -136,10 +143,13 @@ pub over_left : (t : RuleTree) (stack : List Frame) (before after : List ℕ) (b
 over_left t stack before after b h = λ fixed units. h fixed units (rest (reverse stack))
 
 pub over_asked : (t middle : RuleTree) (now stack : List Frame) (before after : List ℕ) (result : Result Next NoMemory) → RunsOn t before middle after
-    → IfOk result (λ n. Means now n middle stack) → IfOk result (λ n. PrintsOver t stack before now n after)
+    → IfOk result (λ n. (s : State) → MeansIn s now n middle stack) → IfOk result (λ n. PrintsOver t stack before now n after)
 over_asked t middle now stack before after (Ok n) first h = λ fixed units.
-    first fixed units (rest (reverse stack)) ∙ ap (λ (u : RuleTree). runs units u (counted fixed after) after) (sym h)
+    first fixed units (rest (reverse stack)) ∙ h (counted fixed after) units after
 over_asked t middle now stack before after (Err e) first h = h
+
+pub first_asked : (t : RuleTree) (now stack : List Frame) (before : List ℕ) (result : Result Next NoMemory) → IfOk result (λ n. (s : State) → MeansIn s now n t stack) → IfOk result (λ n. PrintsOver t stack before now n before)
+first_asked t now stack before result h = over_asked t t now stack before before result (λ fixed units k. refl) h
 
 pub over_behind : (t middle : RuleTree) (now stack : List Frame) (before between after : List ℕ) (result : Result Next NoMemory) → RunsOn t before middle between
     → IfOk result (λ n. PrintsOver middle stack between now n after) → IfOk result (λ n. PrintsOver t stack before now n after)
@@ -160,12 +170,34 @@ reference_asked _ others h = cc
 
 pub text_asked : (v : Value) (waiting : List Value) (now stack : List Frame) (result : Result Next NoMemory) → is_reference v ≡ true
     → IfOk result (λ n. Means now n (operates_over (operation.Str v) (frame.Printing (printing_frame.Print waiting))) stack)
-    → IfOk result (λ n. Means now n (prints_from v (reverse waiting)) stack)
-text_asked v waiting now stack (Ok n) is h =
+    → IfOk result (λ n. (s : State) → MeansIn s now n (prints_from v (reverse waiting)) stack)
+text_asked v waiting now stack (Ok n) is h = λ s units printed. ap (λ (t : RuleTree). runs units t s printed) (sym (
     h
     ∙ ap (λ (t : RuleTree). bind t (rest (reverse stack))) (sym (operates_bound (operation.Str v) (λ a. Give a) (λ a. Return a) (on_text (λ t. writes t (prints_further (reverse waiting))))))
-    ∙ ap (λ (t : RuleTree). bind t (rest (reverse stack))) (sym (reference_asked v (reverse waiting) is))
+    ∙ ap (λ (t : RuleTree). bind t (rest (reverse stack))) (sym (reference_asked v (reverse waiting) is))))
 text_asked v waiting now stack (Err e) is h = h
+
+-- an object within a tuple
+pub tuple_asked : (vs waiting : List Value) (levels : List TupleLevel) (v : Value) (o : TupleText) (now over stack : List Frame) (result : Result Next NoMemory) → o ≡ tuple_text.Asked levels v → Shows (repr_step (value.Tuple vs)) o
+    → over ≡ stack ++ frame.Printing (printing_frame.Print waiting) ∷ []
+    → IfOk result (λ n. (s : State) → is_reference v ≡ true → MeansIn s now n (bind (carry (texts_around (reverse levels) (repr_step v))) (on_text gives_text)) over)
+    → IfOk result (λ n. (s : State) → MeansIn s now n (prints_from (value.Tuple vs) (reverse waiting)) stack)
+tuple_asked vs waiting levels v o now over stack (Ok n) is shows pushed h = λ s units printed.
+    let there : (repr_step (value.Tuple vs) ≡ texts_around (reverse levels) (repr_step v)) × (is_reference v ≡ true) = subst (λ (x : TupleText). Shows (repr_step (value.Tuple vs)) x) is shows in
+    let writing : List ℕ → RuleTree = λ t. writes t (prints_further (reverse waiting)) in
+    ap (λ (t : Step). runs units (bind (bind (carry t) (on_text writing)) (rest (reverse stack))) s printed) there.0
+    ∙ ap (λ (t : RuleTree). runs units t s printed) (text_goes_on (carry (texts_around (reverse levels) (repr_step v))) writing (rest (reverse stack)))
+    ∙ ap (λ (fs : List Frame). runs units (bind (bind (carry (texts_around (reverse levels) (repr_step v))) (on_text gives_text)) (rest fs)) s printed) (sym (ap (λ (fs : List Frame). reverse fs) pushed ∙ reverse-append stack (frame.Printing (printing_frame.Print waiting) ∷ [])))
+    ∙ h s there.1 units printed
+tuple_asked vs waiting levels v o now over stack (Err e) is shows pushed h = tt
+
+pub tuple_long : (vs waiting : List Value) (o : TupleText) (stack : List Frame) → o ≡ tuple_text.TooLong → Shows (repr_step (value.Tuple vs)) o → (s : State) → MeansIn s stack (next.Leave beyond.Size) (prints_from (value.Tuple vs) waiting) stack
+tuple_long vs waiting o stack is shows s units printed =
+    let there : repr_step (value.Tuple vs) ≡ Leaves beyond.Size = subst (λ (x : TupleText). Shows (repr_step (value.Tuple vs)) x) is shows in
+    ap (λ (t : Step). runs units (bind (bind (carry t) (on_text (λ u. writes u (prints_further waiting)))) (rest (reverse stack))) s printed) there
+
+pub value_as : (v : Value) (vs waiting : List Value) (now stack : List Frame) (result : Result Next NoMemory) → v ≡ value.Tuple vs → IfOk result (λ n. (s : State) → MeansIn s now n (prints_from (value.Tuple vs) waiting) stack) → IfOk result (λ n. (s : State) → MeansIn s now n (prints_from v waiting) stack)
+value_as v vs waiting now stack result is h = subst (λ (w : Value). IfOk result (λ n. (s : State) → MeansIn s now n (prints_from w waiting) stack)) (sym is) h
 
 -- ---- over a stack, by the answer of a step
 
@@ -173,7 +205,7 @@ pub all_printed : (t : RuleTree) (waiting : List Value) (stack : List Frame) (be
 all_printed t waiting stack before after answer told ok = over_given t stack before after (subst (λ (r : Answer). PrintsTo t (left_to_print waiting) r before after) ok told)
 
 pub rest_asked : (t : RuleTree) (waiting : List Value) (v : Value) (now stack : List Frame) (before after : List ℕ) (answer : Answer) (result : Result Next NoMemory) → PrintsTo t (left_to_print waiting) answer before after → answer ≡ Ok (Some v)
-    → IfOk result (λ n. Means now n (prints_from v waiting) stack) → IfOk result (λ n. PrintsOver t stack before now n after)
+    → IfOk result (λ n. (s : State) → MeansIn s now n (prints_from v waiting) stack) → IfOk result (λ n. PrintsOver t stack before now n after)
 rest_asked t waiting v now stack before after answer result told ok h =
     over_asked t (prints_from v waiting) now stack before after result (subst (λ (r : Answer). PrintsTo t (left_to_print waiting) r before after) ok told) h
 

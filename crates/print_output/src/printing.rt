@@ -1,6 +1,7 @@
-ghost use Rattle.std.specs.Prelude.{◌≡◌, ◌+◌, ◌*◌, ◌≤◌, ℕ, IfOk, List, length, reverse, string_bytes, true};
+ghost use Rattle.std.specs.Prelude.{IfSome, ◌≡◌, ◌+◌, ◌*◌, ◌≤◌, ℕ, IfOk, List, length, reverse, string_bytes, true};
+ghost use Rattle.rp_base.specs.declared.value.Value.TheVariants as value;
 ghost use Rattle.eval_frames.specs.declared.frame.Frame.{Frame};
-ghost use Rattle.eval_frames.specs.Meaning.{IsLight, Means, load, meant, rest};
+ghost use Rattle.eval_frames.specs.Meaning.{IsLight, MeansIn, load, meant, rest};
 ghost use Rattle.eval_frames.specs.ObjectFrames.{through_printing};
 ghost use Rattle.language_rules.specs.Going.{RuleTree, done};
 ghost use Rattle.language_rules.specs.Kinds.{is_reference};
@@ -14,6 +15,7 @@ ghost use Rattle.print_output.specs.Printed.{PrintsAs, PrintsOver, counted, prin
 use crate::pieces::{end_line, print_plain, print_waiting, write_piece};
 use crate::waiting::{is_plain, is_reference, reversed};
 use eval_frames::{Frame, Next, PrintingFrame, operate};
+use eval_tuple_texts::{TupleText, ask_text as ask_tuple_text, tuple_text};
 use object_operations::{Completion, Operation};
 use rp_base::{Beyond, NoMemory, OpEnd, Plain, Value};
 use sqlite_items::Items;
@@ -21,7 +23,7 @@ use std::alloc::Global;
 
 /// Writes these values behind what is printed, as `print` does: their texts with a space between, and a line end. An
 /// object is asked for its text. A piece is written whole, or not at all where more than 16,777,216 bytes would be
-/// printed. The text of a tuple that holds a reference is not built yet.
+/// printed.
 pub fn print(
     alloc: Global,
     stack: &mut Vec<Frame>,
@@ -116,7 +118,7 @@ fn print_first(
     ensures light { IfOk result (λ next. load stack.new.items next ≤ 3 * length stack.old.items + 10) }
 {
     if !is_plain(&value) {
-        return ask_text(stack, value, waiting);
+        return ask_text(alloc, stack, value, waiting);
     }
     match print_plain(alloc, printed, &value) {
         Ok(()) => go_on(alloc, stack, printed, waiting),
@@ -136,30 +138,70 @@ fn go_on(
 {
     match print_waiting(alloc, printed, &mut waiting) {
         Ok(None) => Ok(Next::Give(Completion::Gives(Value::Plain(Plain::None)))),
-        Ok(Some(value)) => ask_text(stack, value, waiting),
+        Ok(Some(value)) => ask_text(alloc, stack, value, waiting),
         Err(OpEnd::Beyond(beyond)) => Ok(Next::Leave(beyond)),
         Err(_) => Err(NoMemory),
     }
 }
 
-/// An object is asked for its text, over what waits.
-fn ask_text(stack: &mut Vec<Frame>, value: Value, waiting: Items<Value>) -> Result<Next, NoMemory>
-    ensures means { IfOk result (λ next. Means stack.new.items next (prints_from value (reverse waiting)) stack.old.items) }
+/// An object, which may stand within tuples, is asked for its text, over what waits.
+fn ask_text(
+    alloc: Global,
+    stack: &mut Vec<Frame>,
+    value: Value,
+    waiting: Items<Value>,
+) -> Result<Next, NoMemory>
+    ensures means { IfOk result (λ next. (s : State) → MeansIn s stack.new.items next (prints_from value (reverse waiting)) stack.old.items) }
     ensures light { IfOk result (λ next. load stack.new.items next ≤ 3 * length stack.old.items + 10) }
 {
     if is_reference(&value) {
         return ask_object(stack, value, waiting);
     }
-    Err(NoMemory)
+    match items_of(value) {
+        Some(items) => ask_tuple(alloc, stack, items, waiting),
+        None => Err(NoMemory),
+    }
 }
 
 fn ask_object(stack: &mut Vec<Frame>, value: Value, waiting: Items<Value>) -> Result<Next, NoMemory>
     requires { is_reference value ≡ true }
-    ensures means { IfOk result (λ next. Means stack.new.items next (prints_from value (reverse waiting)) stack.old.items) }
+    ensures means { IfOk result (λ next. (s : State) → MeansIn s stack.new.items next (prints_from value (reverse waiting)) stack.old.items) }
     ensures light { IfOk result (λ next. load stack.new.items next ≤ 3 * length stack.old.items + 10) }
 {
     stack.push(Frame::Printing(PrintingFrame::Print { waiting }))?;
     Ok(operate(Operation::Str(value)))
+}
+
+/// The items of a tuple that is no plain value.
+fn items_of(printed: Value) -> Option<Items<Value>>
+    ensures { IfSome result (λ items. printed ≡ value.Tuple items) }
+{
+    match printed {
+        Value::Tuple(items) => Some(items),
+        Value::Plain(_) => None,
+        Value::Own(_) => None,
+        Value::Proxy(_) => None,
+    }
+}
+
+/// A tuple that is no plain value holds an object, which is asked for its text.
+fn ask_tuple(
+    alloc: Global,
+    stack: &mut Vec<Frame>,
+    items: Items<Value>,
+    waiting: Items<Value>,
+) -> Result<Next, NoMemory>
+    ensures means { IfOk result (λ next. (s : State) → MeansIn s stack.new.items next (prints_from (value.Tuple items) (reverse waiting)) stack.old.items) }
+    ensures light { IfOk result (λ next. load stack.new.items next ≤ 3 * length stack.old.items + 10) }
+{
+    match tuple_text(alloc, Value::Tuple(items))? {
+        TupleText::Whole(_) => Err(NoMemory),
+        TupleText::TooLong => Ok(Next::Leave(Beyond::Size)),
+        TupleText::Asked(levels, object) => {
+            stack.push(Frame::Printing(PrintingFrame::Print { waiting }))?;
+            ask_tuple_text(stack, levels, object)
+        }
+    }
 }
 
 /// What was printed is the whole of it, or printing came to an end.

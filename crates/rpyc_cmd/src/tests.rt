@@ -311,17 +311,108 @@ class P:
         return \"P\" + str(self.n)
     def __len__(self):
         return self.n
-print([P(1), P(2)], P(1) == P(1), len(P(4)), sorted([3, 1, 2]), \",\".join([\"a\", \"b\"]))
+print([P(1), (P(2), 3)], P(1) == P(1), len(P(4)), sorted([3, 1, 2]), \",\".join([\"a\", \"b\"]))
 ";
 
 /// A list that grows while it is gone over.
 const GROWING: &[u8] =
     b"a = [1]\nfor x in a:\n    if x < 3:\n        a += [x + 1]\nprint(a, list(range(0, 5, 2)), sum(range(4)))\n";
 
+const TUPLES: &[u8] = b"\
+class P:
+    def __init__(self, n):
+        self.n = n
+    def __eq__(self, other):
+        return self.n == other.n
+p = P(1)
+q = P(1)
+t = (p, 2)
+print(t == (q, 2), t != (q, 3), t == (p, 2))
+print(t < (q, 3))
+";
+
+const MEMBERS: &[u8] = b"\
+class P:
+    def __init__(self, n):
+        self.n = n
+    def __eq__(self, other):
+        return self.n == other.n
+print([1] in (1, [1]), [2] not in (1, [1], ()))
+t = (P(1), P(2))
+print(P(2) in t, P(3) in t, t[0] in t)
+";
+
+const TUPLE_TEXTS: &[u8] = b"\
+class P:
+    def __init__(self, n):
+        self.n = n
+    def __repr__(self):
+        return \"P\" + str(self.n)
+print((P(1), (P(2), 3)))
+t = (P(4),)
+print(str(t), repr(t), [t, (t[0], \"x\")], t)
+";
+
+const OPERATORS: &[u8] = b"\
+class V:
+    def __init__(self, n):
+        self.n = n
+    def __add__(self, other):
+        return V(self.n + other)
+    def __sub__(self, other):
+        if other is None:
+            return NotImplemented
+        return self.n - other.n
+x = V(5)
+y = x + 1
+print(y.n, y - x)
+y += 2
+print(y.n)
+try:
+    x - None
+except TypeError as e:
+    print(str(e))
+print(1 + x)
+";
+
+const ORDERS: &[u8] = b"\
+class P:
+    def __lt__(self, other):
+        return True
+p = P()
+print(sorted((3, True, 2)), sorted((\"b\", \"a\")))
+t = (2, p)
+for v in t:
+    print(v == p)
+print(sorted(t))
+";
+
+const RAISING_EQ: &[u8] = b"\
+class E:
+    def __init__(self, n):
+        self.n = n
+    def __eq__(self, other):
+        if self.n > 1:
+            raise ValueError(\"no\", self.n)
+        return self.n == other.n
+a = (E(1), E(2), 0)
+b = (E(1), E(2), 1)
+print((a[0], 5) == (b[0], 6), a == a)
+try:
+    print(a == b)
+except ValueError as e:
+    print(e.args, repr(e))
+try:
+    print(a[1] in b)
+except ValueError as e:
+    print(str(e))
+print(a != b)
+";
+
 #[test]
 fn scripts_alone(rt: HostRuntime) -> Result<(), Fail> {
     let alloc = rt.alloc();
-    let runs: [Alone; 23] = [
+    let runs: [Alone; 29] = [
         (
             b"print(1)\n",
             &["--fuel", "2"],
@@ -442,13 +533,49 @@ fn scripts_alone(rt: HostRuntime) -> Result<(), Fail> {
             SPECIALS,
             &[],
             Status::Done,
-            "A 30\n[P1, P2] True 4 [1, 2, 3] a,b\nend done\nunits 113\n",
+            "A 35\n[P1, (P2, 3)] True 4 [1, 2, 3] a,b\nend done\nunits 115\n",
         ),
         (
             b"d = {1: \"one\"}\nd[True] = \"yes\"\nprint(d, 1 in d)\n",
             &[],
             Status::Done,
             "A 16\n{1: 'yes'} True\nend done\nunits 17\n",
+        ),
+        (
+            TUPLES,
+            &[],
+            Status::Beyond,
+            "A 15\nTrue True True\nend beyond Order\nunits 71\n",
+        ),
+        (
+            MEMBERS,
+            &[],
+            Status::Done,
+            "A 26\nTrue True\nTrue False True\nend done\nunits 120\n",
+        ),
+        (
+            TUPLE_TEXTS,
+            &[],
+            Status::Done,
+            "A 51\n(P1, (P2, 3))\n(P4,) (P4,) [(P4,), (P4, 'x')] (P4,)\nend done\nunits 115\n",
+        ),
+        (
+            OPERATORS,
+            &[],
+            Status::Raised,
+            "A 26\n6 1\n8\nunsupported operand\nend raised A TypeError('unsupported operand')\nunits 101\n",
+        ),
+        (
+            ORDERS,
+            &[],
+            Status::Beyond,
+            "A 35\n[True, 2, 3] ['a', 'b']\nFalse\nTrue\nend beyond Order\nunits 46\n",
+        ),
+        (
+            RAISING_EQ,
+            &[],
+            Status::Raised,
+            "A 51\nFalse True\n('no', 2) ValueError('no', 2)\n('no', 2)\nend raised A ValueError('no', 2)\nunits 177\n",
         ),
     ];
     for (script, options, status, text) in runs {

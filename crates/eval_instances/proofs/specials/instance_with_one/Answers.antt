@@ -31,28 +31,28 @@ returns-in-Contains-clause-means c =
 
 pub returns-in-Add-clause-means : goal.returns-in-Add-clause-means
 returns-in-Add-clause-means c =
-    on_instances c.args.store.now.cells c.args.stack.now.items c.args.stack.now.items c.args.number (c.args.x.now ∷ []) c.args.special special.Add c.operate_with.result (calls_operator c.args.number special.Add c.args.x.now unsupported) c.in-Add.is (λ class_no attributes. refl)
-    (here c.args.store.now.cells (calls_operator c.args.number special.Add c.args.x.now unsupported) c.operate_with.result c.args.stack.now.items c.operate_with.ensures.means)
+    on_instances c.args.store.now.cells c.operate_with.new.stack.items c.args.stack.now.items c.args.number (c.args.x.now ∷ []) c.args.special special.Add c.operate_with.result (calls_operator c.args.number special.Add c.args.x.now unsupported) c.in-Add.is (λ class_no attributes. refl)
+    c.operate_with.ensures.means
 
 pub returns-in-Mul-clause-means : goal.returns-in-Mul-clause-means
 returns-in-Mul-clause-means c =
-    on_instances c.args.store.now.cells c.args.stack.now.items c.args.stack.now.items c.args.number (c.args.x.now ∷ []) c.args.special special.Mul c.operate_with-in-Mul.result (calls_operator c.args.number special.Mul c.args.x.now unsupported) c.in-Mul.is (λ class_no attributes. refl)
-    (here c.args.store.now.cells (calls_operator c.args.number special.Mul c.args.x.now unsupported) c.operate_with-in-Mul.result c.args.stack.now.items c.operate_with-in-Mul.ensures.means)
+    on_instances c.args.store.now.cells c.operate_with-in-Mul.new.stack.items c.args.stack.now.items c.args.number (c.args.x.now ∷ []) c.args.special special.Mul c.operate_with-in-Mul.result (calls_operator c.args.number special.Mul c.args.x.now unsupported) c.in-Mul.is (λ class_no attributes. refl)
+    c.operate_with-in-Mul.ensures.means
 
 pub returns-in-FloorDiv-clause-means : goal.returns-in-FloorDiv-clause-means
 returns-in-FloorDiv-clause-means c =
-    on_instances c.args.store.now.cells c.args.stack.now.items c.args.stack.now.items c.args.number (c.args.x.now ∷ []) c.args.special special.FloorDiv c.operate_with-in-FloorDiv.result (calls_operator c.args.number special.FloorDiv c.args.x.now unsupported) c.in-FloorDiv.is (λ class_no attributes. refl)
-    (here c.args.store.now.cells (calls_operator c.args.number special.FloorDiv c.args.x.now unsupported) c.operate_with-in-FloorDiv.result c.args.stack.now.items c.operate_with-in-FloorDiv.ensures.means)
+    on_instances c.args.store.now.cells c.operate_with-in-FloorDiv.new.stack.items c.args.stack.now.items c.args.number (c.args.x.now ∷ []) c.args.special special.FloorDiv c.operate_with-in-FloorDiv.result (calls_operator c.args.number special.FloorDiv c.args.x.now unsupported) c.in-FloorDiv.is (λ class_no attributes. refl)
+    c.operate_with-in-FloorDiv.ensures.means
 
 pub returns-in-Mod-clause-means : goal.returns-in-Mod-clause-means
 returns-in-Mod-clause-means c =
-    on_instances c.args.store.now.cells c.args.stack.now.items c.args.stack.now.items c.args.number (c.args.x.now ∷ []) c.args.special special.Mod c.operate_with-in-Mod.result (calls_operator c.args.number special.Mod c.args.x.now unsupported) c.in-Mod.is (λ class_no attributes. refl)
-    (here c.args.store.now.cells (calls_operator c.args.number special.Mod c.args.x.now unsupported) c.operate_with-in-Mod.result c.args.stack.now.items c.operate_with-in-Mod.ensures.means)
+    on_instances c.args.store.now.cells c.operate_with-in-Mod.new.stack.items c.args.stack.now.items c.args.number (c.args.x.now ∷ []) c.args.special special.Mod c.operate_with-in-Mod.result (calls_operator c.args.number special.Mod c.args.x.now unsupported) c.in-Mod.is (λ class_no attributes. refl)
+    c.operate_with-in-Mod.ensures.means
 
 pub returns-in-Sub-clause-means : goal.returns-in-Sub-clause-means
 returns-in-Sub-clause-means c =
-    on_instances c.args.store.now.cells c.args.stack.now.items c.args.stack.now.items c.args.number (c.args.x.now ∷ []) c.args.special special.Sub c.subtract.result (subtract_rule c.args.number c.args.x.now (cell.Instance 0 [])) c.in-Sub.is (λ class_no attributes. refl)
-    (here c.args.store.now.cells (subtract_rule c.args.number c.args.x.now (cell.Instance 0 [])) c.subtract.result c.args.stack.now.items c.subtract.ensures.means)
+    on_instances c.args.store.now.cells c.subtract.new.stack.items c.args.stack.now.items c.args.number (c.args.x.now ∷ []) c.args.special special.Sub c.subtract.result (subtract_rule c.args.number c.args.x.now (cell.Instance 0 [])) c.in-Sub.is (λ class_no attributes. refl)
+    c.subtract.ensures.means
 
 pub returns-in-IAdd-clause-means : goal.returns-in-IAdd-clause-means
 returns-in-IAdd-clause-means c =

@@ -3,7 +3,7 @@ use Rattle.rp_base.specs.declared.value.Value.{Value}
 use Rattle.object_operations.specs.declared.operation.Operation.{Operation}
 use Rattle.object_operations.specs.declared.operation.Operation.TheVariants as operation
 use Rattle.object_operations.specs.declared.special.Special.TheVariants as special
-use Rattle.eval_exprs.proofs.Moving.{means_as}
+use Rattle.eval_comparing.proofs.Moving.{means_as}
 use Rattle.eval_frames.specs.Meaning.{operates_over}
 use Rattle.eval_frames.specs.declared.frame.Frame.TheVariants as frame
 use Rattle.eval_frames.specs.declared.list_frames.EqualityFrame.TheVariants as equality_frame

@@ -12,15 +12,15 @@ use Rattle.eval_searching.proofs.indexing.index_list.Goals as goal
 
 pub returns-in-Nowhere-clause-means : goal.returns-in-Nowhere-clause-means
 returns-in-Nowhere-clause-means c =
-    whole_searched c.args.store.now.cells c.args.store.now.cells c.args.list c.args.wanted c.search_whole.result searched.Nowhere (through_search search_frame.Index) c.refuse_place.result c.args.stack.now.items c.args.stack.now.items c.requires c.in-Nowhere.is c.search_whole.ensures
+    whole_searched c.args.store.now.cells c.args.store.now.cells c.args.list c.args.wanted c.in_ok-searched.searched searched.Nowhere (through_search search_frame.Index) c.refuse_place.result c.args.stack.now.items c.args.stack.now.items c.requires c.in-Nowhere.is c.in_ok-searched.ensures
     (any_list not_in_list c.args.store.now.cells c.args.list c.refuse_place.result c.args.stack.now.items c.refuse_place.ensures.means)
 
 pub returns-in-Found-clause-means : goal.returns-in-Found-clause-means
 returns-in-Found-clause-means c =
-    whole_searched c.args.store.now.cells c.args.store.now.cells c.args.list c.args.wanted c.search_whole.result (searched.Found c.in-Found.at) (through_search search_frame.Index) (Ok c.give_position.result) c.args.stack.now.items c.args.stack.now.items c.requires c.in-Found.is c.search_whole.ensures
+    whole_searched c.args.store.now.cells c.args.store.now.cells c.args.list c.args.wanted c.in_ok-searched.searched (searched.Found c.in-Found.at) (through_search search_frame.Index) (Ok c.give_position.result) c.args.stack.now.items c.args.stack.now.items c.requires c.in-Found.is c.in_ok-searched.ensures
     (any_list (gives_position c.in-Found.at) c.args.store.now.cells c.args.list (Ok c.give_position.result) c.args.stack.now.items c.give_position.ensures.means)
 
 pub returns-in-Asked-clause-means : goal.returns-in-Asked-clause-means
 returns-in-Asked-clause-means c =
-    whole_searched c.args.store.now.cells c.args.store.now.cells c.args.list c.args.wanted c.search_whole.result (searched.Asked c.in-Asked.at) (through_search search_frame.Index) c.ask_over.result c.ask_over.new.stack.items c.args.stack.now.items c.requires c.in-Asked.is c.search_whole.ensures
+    whole_searched c.args.store.now.cells c.args.store.now.cells c.args.list c.args.wanted c.in_ok-searched.searched (searched.Asked c.in-Asked.at) (through_search search_frame.Index) c.ask_over.result c.ask_over.new.stack.items c.args.stack.now.items c.requires c.in-Asked.is c.in_ok-searched.ensures
     (any_state (λ (items : List Value). bind (item_asked c.args.list c.in-Asked.at c.args.wanted (drop c.in-Asked.at items)) (through_search search_frame.Index)) c.args.store.now.cells c.args.list c.ask_over.result c.ask_over.new.stack.items c.args.stack.now.items c.ask_over.ensures.means)

@@ -1,5 +1,5 @@
 use Rattle.std.proofs.Common.{drop}
-use Rattle.eval_exprs.proofs.Moving.{pushed}
+use Rattle.eval_comparing.proofs.Moving.{pushed}
 use Rattle.eval_frames.specs.declared.frame.Frame.TheVariants as frame
 use Rattle.eval_frames.specs.declared.list_frames.SearchFrame.TheVariants as search_frame
 use Rattle.eval_searching.specs.Searched.{item_asked}

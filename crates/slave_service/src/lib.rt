@@ -1,0 +1,8 @@
+//! A side as it starts: its namespace, its root, and a cell for each module of the program around it.
+#![tactic(auto)]
+
+mod starting;
+#[cfg(test)]
+mod tests;
+
+pub use starting::start;
