@@ -27,7 +27,7 @@ use Rattle.nested_serve.specs.Alone.{IsEndOf, IsRunAlone, IsRunOf}
 use Rattle.nested_serve.specs.Endpoints.{Answers, IsTurnAfter, IsTurnOf, StandsAt, ahead_at, answer_after, answer_at, answer_to, end_at, run_over, told_end}
 use Rattle.nested_serve.specs.Machines.{Advances, Ends, Halts, LeavesRun, ahead, course, printed_by, state_in}
 use Rattle.nested_serve.proofs.AloneRuns.{by_end}
-use Rattle.nested_serve.proofs.UnitsLeft.{HadUnits, left_at, others_left, with_left}
+use Rattle.eval_suites.proofs.UnitsLeft.{HadUnits, left_at, others_left, with_left}
 
 -- ---- where an endpoint stands
 

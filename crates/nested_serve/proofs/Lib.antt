@@ -3,4 +3,4 @@ pub mod Beginning
 pub mod Endpoints
 pub mod Steps
 pub mod ClassSteps
-pub mod UnitsLeft
+pub mod Within

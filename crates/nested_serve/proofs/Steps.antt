@@ -35,7 +35,7 @@ use Rattle.nested_serve.specs.declared.machine.Machine.{Machine}
 use Rattle.nested_serve.specs.declared.running.Progress.{Progress}
 use Rattle.nested_serve.specs.declared.running.Progress.TheVariants as progress
 use Rattle.nested_serve.specs.Machines.{Advances, Follows, GoesOn, LeavesRun, ahead, course, printed_by}
-use Rattle.nested_serve.proofs.UnitsLeft.{comes_anyhow}
+use Rattle.eval_suites.proofs.UnitsLeft.{comes_anyhow}
 use Rattle.print_output.specs.Printed.{counted}
 
 -- ---- decisions

@@ -41,6 +41,10 @@ course fixed m n units = runs_over fixed m (meant m.stack.items n) units
 abbrev pub GoesOn : Machine → RuleTree → Machine → Next → Type 0
 GoesOn before t now n = (fixed : State) (units : ℕ) → runs_over fixed before (bind t (rest (reverse before.stack.items))) units ≡ course fixed now n units
 
+-- the same, where so many units are spent: with those, and however many more
+abbrev pub GoesOnWithin : Machine → RuleTree → ℕ → Machine → Next → Type 0
+GoesOnWithin before t spent now n = (fixed : State) (more : ℕ) → runs_over fixed before (bind t (rest (reverse before.stack.items))) (spent + more) ≡ course fixed now n more
+
 -- the value, or an end that passes what waits for a value
 abbrev pub IsValueOf : Completion → Result Value Completion → Type 0
 IsValueOf a (Ok v) = a ≡ Gives v

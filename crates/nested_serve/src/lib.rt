@@ -11,6 +11,7 @@ mod machine;
 mod performing;
 mod running;
 mod starting;
+mod within;
 
 pub use alone::{AloneEnd, AloneRun, alone_run, run_alone};
 pub use endpoint::{Endpoint, Role, StepEnd, TextEnd};

@@ -14,6 +14,7 @@ use crate::entering::enter;
 use crate::giving::{give, value_of};
 use crate::machine::{Halt, Machine};
 use crate::performing::{advance_making, advance_performing};
+use crate::within::{begin_within, give_within};
 use eval_classes::{begin_class, begin_member, give_class};
 use eval_frames::{ClassFrame, Frame, HandlerFrame, Next, PrintingFrame, TextFrame, node_at};
 use eval_handlers::give_handler;
@@ -45,7 +46,7 @@ pub(crate) fn advance(
     match next {
         Next::Enter(env, number) => advance_into(alloc, machine, env, number, fuel),
         Next::Member(env, number) => advance_member(machine, env, number, fuel),
-        Next::Give(completion) => advance_with(alloc, machine, completion),
+        Next::Give(completion) => advance_with(alloc, machine, completion, fuel),
         Next::Print(values) => advance_printing(alloc, machine, values),
         Next::Leave(beyond) => Ok(Progress::Halted(Halt::Beyond(beyond))),
         Next::Perform(operation) => advance_performing(alloc, machine, operation, fuel),
@@ -87,7 +88,7 @@ fn advance_by_frames(
     match fuel.checked_sub(1) {
         Some(left) => {
             *fuel = left;
-            Ok(Progress::On(begin_node(alloc, machine, env, number)?))
+            Ok(Progress::On(begin_within(alloc, machine, env, number, fuel)?))
         }
         None => Ok(Progress::Halted(Halt::OutOfFuel)),
     }
@@ -128,11 +129,16 @@ fn advance_with(
     alloc: Global,
     machine: &mut Machine,
     completion: Completion,
+    fuel: &mut u64,
 ) -> Result<Progress, NoMemory>
-    ensures { IfOk result (λ advance. (units : ℕ) → Follows machine.old (next.Give completion) units advance machine.new) }
+    ensures run { IfOk result (λ advance. Advances machine.old (next.Give completion) fuel.old advance machine.new fuel.new) }
+    ensures spent { fuel.new ≤ fuel.old }
 {
     match machine.stack.pop() {
-        Some(frame) => Ok(Progress::On(give_frame(alloc, machine, frame, completion)?)),
+        Some(frame) => {
+            let next = give_within(alloc, machine, frame, completion, fuel)?;
+            Ok(Progress::On(next))
+        }
         None => Ok(Progress::Halted(Halt::Done(completion))),
     }
 }
@@ -157,7 +163,7 @@ fn begin_member_of(machine: &mut Machine, env: Env, number: u32) -> Result<Next,
 }
 
 #[inline(never)]
-fn begin_node(alloc: Global, machine: &mut Machine, env: Env, number: u32) -> Result<Next, NoMemory>
+pub(crate) fn begin_node(alloc: Global, machine: &mut Machine, env: Env, number: u32) -> Result<Next, NoMemory>
     ensures means { IfOk result (λ next. GoesOn machine.old (node_rule env number) machine.new next) }
     ensures light { IfOk result (λ next. IsLight machine.new.stack.items next machine.old.stack.items) }
 {
@@ -198,7 +204,8 @@ fn begin_plain_node(
     )
 }
 
-fn give_frame(
+#[inline(never)]
+pub(crate) fn give_frame(
     alloc: Global,
     machine: &mut Machine,
     frame: Frame,

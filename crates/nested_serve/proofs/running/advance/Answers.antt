@@ -2,9 +2,6 @@ use Rattle.eval_frames.specs.declared.next.Next.TheVariants as next
 use Rattle.nested_serve.proofs.Steps.{follows}
 use Rattle.nested_serve.proofs.running.advance.Goals as goal
 
-pub returns-in-Give-clause-run : goal.returns-in-Give-clause-run
-returns-in-Give-clause-run c = follows c.advance_with.result c.args.machine.now c.advance_with.new.machine c.args.next (next.Give c.in-Give.completion) c.args.fuel.now c.in-Give.is c.advance_with.ensures
-
 pub returns-in-Print-clause-run : goal.returns-in-Print-clause-run
 returns-in-Print-clause-run c = follows c.advance_printing.result c.args.machine.now c.advance_printing.new.machine c.args.next (next.Print c.in-Print.values) c.args.fuel.now c.in-Print.is c.advance_printing.ensures
 
