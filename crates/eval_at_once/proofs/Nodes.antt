@@ -24,7 +24,8 @@ use Rattle.language_rules.specs.Running.{prints_behind, runs}
 use Rattle.language_rules.specs.States.{State}
 use Rattle.language_rules.specs.Texts.{node_at, node_of}
 use Rattle.eval_at_once.specs.declared.evaluating.Evaluated.{Evaluated}
-use Rattle.eval_at_once.specs.Evaluated.{ComesTo, IsComputed, IsEvaluated, IsRead, expression_of}
+use Rattle.eval_at_once.specs.declared.evaluating.Operands.{Operands}
+use Rattle.eval_at_once.specs.Evaluated.{AreEvaluated, ComesTo, IsComputed, IsEvaluated, IsRead, expression_of}
 
 -- ---- operands
 
@@ -80,30 +81,33 @@ of_name cells texts env number e units left (Some w) p h c = (
 )
 of_name cells texts env number e units left None p h c = tt
 
-pub of_one : (cells : List Cell) (texts : List Program) (env : Env) (number : ℕ) (e : Expression) (units left n : ℕ) (t : Value → RuleTree) (a : Evaluated) (r : Option Evaluated) → units ≡ suc left
-    → expression_of (node_of (slice_get texts env.text) number) ≡ Some e → expression_rule env e ≡ one_operand env n t
-    → IsEvaluated cells texts (evaluated env n) left (Some a) → IsComputed (t a.value) a.left r → IsEvaluated cells texts (evaluated env number) units r
-of_one cells texts env number e units left n t a (Some w) p h is ha c = (
-  (λ fixed. behind_unit (stated fixed cells texts) env number e units left w.left w.value p h
-      (λ k printed. ap (λ (x : RuleTree). runs left (bind x k) (stated fixed cells texts) printed) is
-      ∙ one (stated fixed cells texts) env n t left a.left a.value w.value (ha.0 fixed) c.0 k printed
-      ∙ ap (λ (m : ℕ). runs m (k (Gives w.value)) (stated fixed cells texts) printed) (sym c.1))),
-  omega (arith, p, c.1, ha.1),
-)
-of_one cells texts env number e units left n t a None p h is ha c = tt
+-- behind its unit, an expression that has operands
+pub of_parts : (cells : List Cell) (texts : List Program) (env : Env) (number : ℕ) (e : Expression) (units left : ℕ) (r : Option Evaluated) → units ≡ suc left
+    → expression_of (node_of (slice_get texts env.text) number) ≡ Some e → IsEvaluated cells texts (expression_rule env e) left r → IsEvaluated cells texts (evaluated env number) units r
+of_parts cells texts env number e units left (Some w) p h c = ((λ fixed. behind_unit (stated fixed cells texts) env number e units left w.left w.value p h (c.0 fixed)), omega (arith, p, c.1))
+of_parts cells texts env number e units left None p h c = tt
 
-pub of_two : (cells : List Cell) (texts : List Program) (env : Env) (number : ℕ) (e : Expression) (units left n m : ℕ) (t : Value → Value → RuleTree) (a b : Evaluated) (r : Option Evaluated) → units ≡ suc left
-    → expression_of (node_of (slice_get texts env.text) number) ≡ Some e → expression_rule env e ≡ two_operands env n m t
-    → IsEvaluated cells texts (evaluated env n) left (Some a) → IsEvaluated cells texts (evaluated env m) a.left (Some b) → IsComputed (t a.value b.value) b.left r
-    → IsEvaluated cells texts (evaluated env number) units r
-of_two cells texts env number e units left n m t a b (Some w) p h is ha hb c = (
-  (λ fixed. behind_unit (stated fixed cells texts) env number e units left w.left w.value p h
-      (λ k printed. ap (λ (x : RuleTree). runs left (bind x k) (stated fixed cells texts) printed) is
-      ∙ two (stated fixed cells texts) env n m t left a.left b.left a.value b.value w.value (ha.0 fixed) (hb.0 fixed) c.0 k printed
-      ∙ ap (λ (i : ℕ). runs i (k (Gives w.value)) (stated fixed cells texts) printed) (sym c.1))),
-  omega (arith, p, c.1, ha.1, hb.1),
+-- ---- expressions, with what was made of their operands
+
+pub of_one : (cells : List Cell) (texts : List Program) (env : Env) (e : Expression) (units n : ℕ) (t : Value → RuleTree) (a : Evaluated) (r : Option Evaluated) → expression_rule env e ≡ one_operand env n t
+    → IsEvaluated cells texts (evaluated env n) units (Some a) → IsComputed (t a.value) a.left r → IsEvaluated cells texts (expression_rule env e) units r
+of_one cells texts env e units n t a (Some w) is ha c = (
+  (λ fixed k printed. ap (λ (x : RuleTree). runs units (bind x k) (stated fixed cells texts) printed) is
+      ∙ one (stated fixed cells texts) env n t units a.left a.value w.value (ha.0 fixed) c.0 k printed
+      ∙ ap (λ (m : ℕ). runs m (k (Gives w.value)) (stated fixed cells texts) printed) (sym c.1)),
+  omega (arith, c.1, ha.1),
 )
-of_two cells texts env number e units left n m t a b None p h is ha hb c = tt
+of_one cells texts env e units n t a None is ha c = tt
+
+pub of_two : (cells : List Cell) (texts : List Program) (env : Env) (e : Expression) (units n m : ℕ) (t : Value → Value → RuleTree) (o : Operands) (r : Option Evaluated) → expression_rule env e ≡ two_operands env n m t
+    → AreEvaluated cells texts (evaluated env n) (evaluated env m) units (Some o) → IsComputed (t o.first.value o.second.value) o.second.left r → IsEvaluated cells texts (expression_rule env e) units r
+of_two cells texts env e units n m t o (Some w) is h c = (
+  (λ fixed k printed. ap (λ (x : RuleTree). runs units (bind x k) (stated fixed cells texts) printed) is
+      ∙ two (stated fixed cells texts) env n m t units o.first.left o.second.left o.first.value o.second.value w.value (h.0.0 fixed) (h.1.0 fixed) c.0 k printed
+      ∙ ap (λ (i : ℕ). runs i (k (Gives w.value)) (stated fixed cells texts) printed) (sym c.1)),
+  omega (arith, c.1, h.0.1, h.1.1),
+)
+of_two cells texts env e units n m t o None is h c = tt
 
 -- ---- augmented assignment
 

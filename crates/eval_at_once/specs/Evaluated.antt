@@ -16,6 +16,7 @@ use Rattle.language_rules.specs.Running.{runs}
 use Rattle.language_rules.specs.States.{State}
 use Rattle.language_rules.specs.Truth.{on_truth}
 use Rattle.eval_at_once.specs.declared.evaluating.Evaluated.{Evaluated}
+use Rattle.eval_at_once.specs.declared.evaluating.Operands.{Operands}
 
 -- In this state and within so many units the computation comes to this end, in that state and with so many units left: whatever goes on behind, no run tells the one from the other.
 abbrev pub ComesTo : RuleTree → State → ℕ → Completion → State → ℕ → Type 0
@@ -25,6 +26,11 @@ ComesTo t s units a now left = (k : Completion → RuleTree) (printed : List ℕ
 abbrev pub IsEvaluated : List Cell → List Program → RuleTree → ℕ → Option Evaluated → Type 0
 IsEvaluated cells texts t units (Some e) = ((fixed : State) → ComesTo t (stated fixed cells texts) units (Gives e.value) (stated fixed cells texts) e.left) × (e.left + 1 ≤ units)
 IsEvaluated cells texts t units None = ⊤
+
+-- both computations come to their values, the second one with what the first leaves
+abbrev pub AreEvaluated : List Cell → List Program → RuleTree → RuleTree → ℕ → Option Operands → Type 0
+AreEvaluated cells texts t u units (Some o) = IsEvaluated cells texts t units (Some o.first) × IsEvaluated cells texts u o.first.left (Some o.second)
+AreEvaluated cells texts t u units None = ⊤
 
 -- the computation is nothing but this value
 abbrev pub IsComputed : RuleTree → ℕ → Option Evaluated → Type 0

@@ -1,7 +1,8 @@
 ghost use Rattle.std.specs.Prelude.{◌≡◌, ◌∷◌, [], IfSome, option_copied, slice_get};
 ghost use Rattle.language_rules.specs.Answers.{evaluated};
 ghost use Rattle.language_rules.specs.Texts.{node_of};
-ghost use Rattle.eval_at_once.specs.Evaluated.{IsEvaluated, expression_of};
+ghost use Rattle.language_rules.specs.Expressions.{expression_rule};
+ghost use Rattle.eval_at_once.specs.Evaluated.{AreEvaluated, IsEvaluated, expression_of};
 
 use crate::applying::{compare, constant, index, invert, named, operate, operate_on};
 use eval_frames::node_at;
@@ -18,9 +19,17 @@ pub struct Evaluated {
     pub left: u64,
 }
 
+/// The values of two expressions, of which the second one follows the first.
+#[derive(Drop)]
+pub(crate) struct Operands {
+    pub(crate) first: Evaluated,
+    pub(crate) second: Evaluated,
+}
+
 /// The value of the expression of this number, with the units that are left of those given. None where it is not to be had
-/// at once: it has more than `depth` levels, another form, an operand that is an object, too few units, or any end but a
-/// value.
+/// at once: operands stand in more than `depth` levels, it has another form, an operand that is an object, too few units,
+/// or any end but a value.
+#[cycle(evaluates)]
 pub fn evaluate(
     alloc: Global,
     store: &Store,
@@ -33,40 +42,74 @@ pub fn evaluate(
     ensures { IsEvaluated store.now.cells texts.now (evaluated env number) units result }
 {
     let left = units.checked_sub(1)?;
-    let within = depth.checked_sub(1)?;
     match expression_at(texts, env, number)? {
         Expression::Name(name) => named(alloc, store, texts, env, name.as_str(), left),
         Expression::Constant(plain) => constant(alloc, plain, left),
-        &Expression::Unary { op, operand } => {
-            let of = evaluate(alloc, store, texts, env, operand, left, within)?;
-            operate_on(alloc, op, of)
-        }
-        &Expression::Not(operand) => {
-            let of = evaluate(alloc, store, texts, env, operand, left, within)?;
-            invert(of)
-        }
-        &Expression::Binary {
-            op,
-            left: first,
-            right,
-        } => {
-            let a = evaluate(alloc, store, texts, env, first, left, within)?;
-            let b = evaluate(alloc, store, texts, env, right, a.left, within)?;
-            operate(alloc, op, a, b)
-        }
-        &Expression::Item { receiver, key } => {
-            let a = evaluate(alloc, store, texts, env, receiver, left, within)?;
-            let b = evaluate(alloc, store, texts, env, key, a.left, within)?;
-            index(alloc, a, b)
+        expression => evaluate_parts(alloc, store, texts, env, expression, left, depth),
+    }
+}
+
+/// An expression that has operands, behind its own unit.
+#[cycle(evaluates)]
+#[inline(never)]
+fn evaluate_parts(
+    alloc: Global,
+    store: &Store,
+    texts: &[Program],
+    env: Env,
+    expression: &Expression,
+    units: u64,
+    depth: u32,
+) -> Option<Evaluated>
+    ensures { IsEvaluated store.now.cells texts.now (expression_rule env expression.now) units result }
+{
+    let within = depth.checked_sub(1)?;
+    match expression {
+        &Expression::Binary { op, left, right } => {
+            let of = evaluate_two(alloc, store, texts, env, left, right, units, within)?;
+            operate(alloc, op, of.first, of.second)
         }
         Expression::Compare { first, links } => {
             let link = only_link(links.as_slice())?;
-            let a = evaluate(alloc, store, texts, env, *first, left, within)?;
-            let b = evaluate(alloc, store, texts, env, link.right, a.left, within)?;
-            compare(alloc, link.comparison, a, b)
+            let of = evaluate_two(alloc, store, texts, env, *first, link.right, units, within)?;
+            compare(alloc, link.comparison, of.first, of.second)
+        }
+        &Expression::Item { receiver, key } => {
+            let of = evaluate_two(alloc, store, texts, env, receiver, key, units, within)?;
+            index(alloc, of.first, of.second)
+        }
+        &Expression::Unary { op, operand } => {
+            let of = evaluate(alloc, store, texts, env, operand, units, within)?;
+            operate_on(alloc, op, of)
+        }
+        &Expression::Not(operand) => {
+            let of = evaluate(alloc, store, texts, env, operand, units, within)?;
+            invert(of)
         }
         _ => None,
     }
+}
+
+/// Two operands, one after the other.
+#[cycle(evaluates)]
+fn evaluate_two(
+    alloc: Global,
+    store: &Store,
+    texts: &[Program],
+    env: Env,
+    first: u32,
+    second: u32,
+    units: u64,
+    depth: u32,
+) -> Option<Operands>
+    ensures { AreEvaluated store.now.cells texts.now (evaluated env first) (evaluated env second) units result }
+{
+    let a = evaluate(alloc, store, texts, env, first, units, depth)?;
+    let b = evaluate(alloc, store, texts, env, second, a.left, depth)?;
+    Some(Operands {
+        first: a,
+        second: b,
+    })
 }
 
 /// The link of a chain that has no other.
