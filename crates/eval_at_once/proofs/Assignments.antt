@@ -1,5 +1,5 @@
 -- Assignments to names that are carried out at once.
-use Rattle.std.proofs.Common.{◌≡◌, ◌+◌, ◌≤◌, arith, ℕ, suc, List, Option, Some, None, Ok, slice_get, refl, sym, ◌∙◌, ap}
+use Rattle.std.proofs.Common.{◌≡◌, arith, ℕ, suc, List, Option, Some, None, Ok, slice_get, sym, ◌∙◌, ap}
 use Rattle.rp_base.specs.declared.operators.BinaryOp.{BinaryOp}
 use Rattle.rp_base.specs.declared.value.Value.{Value}
 use Rattle.py_ast.specs.declared.node.Node.{Node}

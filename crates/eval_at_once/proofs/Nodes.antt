@@ -1,5 +1,5 @@
 -- Nodes that come to their value at once.
-use Rattle.std.proofs.Common.{◌≡◌, ◌+◌, ◌≤◌, arith, ℕ, zero, suc, Bool, true, false, List, Option, Some, None, Ok, slice_get, refl, sym, subst, ◌∙◌, ap}
+use Rattle.std.proofs.Common.{◌≡◌, arith, ℕ, suc, false, List, Option, Some, None, slice_get, refl, sym, ◌∙◌, ap}
 use Rattle.rp_base.specs.declared.operators.BinaryOp.{BinaryOp}
 use Rattle.rp_base.specs.declared.operators.BinaryOp.TheVariants as op
 use Rattle.rp_base.specs.declared.value.Value.{Value}
@@ -12,8 +12,8 @@ use Rattle.py_store.specs.declared.cell.Cell.{Cell}
 use Rattle.side_trees.specs.Trees.{Return, bind}
 use Rattle.language_rules.proofs.RunLemmas.{goes_on}
 use Rattle.language_rules.specs.Answers.{evaluated}
-use Rattle.language_rules.specs.AtOnce.{at_once, stated}
-use Rattle.language_rules.specs.Codes.{Completion, Env, Gives}
+use Rattle.language_rules.specs.AtOnce.{stated}
+use Rattle.language_rules.specs.Codes.{Env, Gives}
 use Rattle.language_rules.specs.Expressions.{expression_rule}
 use Rattle.language_rules.specs.Going.{RuleTree, evaluates, on_value}
 use Rattle.language_rules.specs.Kinds.{is_reference}

@@ -1,4 +1,4 @@
-use Rattle.std.proofs.Common.{arith, [], ◌∷◌, ◌∙◌, ap, sym, List}
+use Rattle.std.proofs.Common.{arith, ◌∙◌, ap, sym, List}
 use Rattle.py_ast.specs.declared.expression.Expression.TheVariants as expression
 use Rattle.py_ast.specs.declared.expression.Link.{Link}
 use Rattle.language_rules.specs.Chains.{link_rule}
@@ -11,8 +11,8 @@ use Rattle.eval_at_once.proofs.evaluating.+evaluates.Goals as goal
 
 pub evaluate-returns-in_default : goal.evaluate-returns-in_default
 evaluate-returns-in_default t c =
-    of_parts c.args.store.now.cells c.args.texts.now c.args.env c.args.number c.in_ok-name.field-0.now c.args.units c.in_ok-left.left c.evaluate_parts.result
-    (omega (arith, c.in_ok-left.ensures.0, c.in_ok-left.ensures.1)) (sym c.in_ok-name.ensures) c.evaluate_parts.ensures
+    of_parts c.args.store.now.cells c.args.texts.now c.args.env c.args.number c.in_ok-expression.expression.now c.args.units c.in_ok-left.left c.evaluate_parts.result
+    (omega (arith, c.in_ok-left.ensures.0, c.in_ok-left.ensures.1)) (sym c.in_ok-expression.ensures) c.evaluate_parts.ensures
 
 pub evaluate_parts-returns-in_ok-of-in-Unary : goal.evaluate_parts-returns-in_ok-of-in-Unary
 evaluate_parts-returns-in_ok-of-in-Unary t c =
@@ -37,6 +37,6 @@ evaluate_parts-returns-in_ok-of-in-Item t c =
 pub evaluate_parts-returns-in_ok-of-in-Compare : goal.evaluate_parts-returns-in_ok-of-in-Compare
 evaluate_parts-returns-in_ok-of-in-Compare t c =
     let only = sym c.as_slice.ensures ∙ c.in_ok-link-in-Compare.ensures in
-    of_two c.args.store.now.cells c.args.texts.now c.args.env c.args.expression.now c.args.units c.in-Compare.first.now c.in_ok-link-in-Compare.link.right (λ a b. link_rule c.in_ok-link-in-Compare.link.comparison a b) c.in_ok-of-in-Compare.of c.compare.result
-    (ap (expression_rule c.args.env) c.in-Compare.is ∙ ap (λ (links : List Link). expression_rule c.args.env (expression.Compare c.in-Compare.first.now links)) only)
+    of_two c.args.store.now.cells c.args.texts.now c.args.env c.args.expression.now c.args.units c.in-Compare.first c.in_ok-link-in-Compare.link.right (λ a b. link_rule c.in_ok-link-in-Compare.link.comparison a b) c.in_ok-of-in-Compare.of c.compare.result
+    (ap (expression_rule c.args.env) c.in-Compare.is ∙ ap (λ (links : List Link). expression_rule c.args.env (expression.Compare c.in-Compare.first links)) only)
     c.in_ok-of-in-Compare.ensures c.compare.ensures
