@@ -3,4 +3,4 @@ pub mod Beginning
 pub mod Endpoints
 pub mod Steps
 pub mod ClassSteps
-pub mod Within
+pub mod WithinLaws

@@ -1,5 +1,5 @@
 use Rattle.std.proofs.Common.{arith}
-use Rattle.nested_serve.proofs.Within.{enters_within}
+use Rattle.nested_serve.proofs.WithinLaws.{enters_within}
 use Rattle.nested_serve.proofs.running.advance_by_frames.Goals as goal
 
 pub returns-in_ok-begin_within-in-Some-clause-run : goal.returns-in_ok-begin_within-in-Some-clause-run
