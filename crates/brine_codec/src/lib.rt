@@ -7,8 +7,6 @@ mod ends;
 mod int_text;
 mod laws;
 mod tag;
-#[cfg(test)]
-mod tests;
 
 pub use decoding::decode;
 pub use encoding::encode;

@@ -7,8 +7,6 @@ mod functions;
 mod items;
 mod numbers;
 mod sums;
-#[cfg(test)]
-mod tests;
 mod texts;
 mod truth;
 

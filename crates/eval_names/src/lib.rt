@@ -5,8 +5,6 @@ mod ends;
 mod lookup;
 mod names;
 mod place;
-#[cfg(test)]
-mod tests;
 
 pub use lookup::{function_at, has_name};
 pub use names::{bind_name, read_name};

@@ -4,7 +4,5 @@
 mod items;
 mod kinds;
 mod orders;
-#[cfg(test)]
-mod tests;
 
 pub use items::sorted_items;

@@ -7,8 +7,6 @@ mod faults;
 mod laws;
 mod message;
 mod reading;
-#[cfg(test)]
-mod tests;
 
 pub use arguments::check_args;
 pub use faults::{MsgFault, PeerFault, PeerKind};

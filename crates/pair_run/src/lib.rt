@@ -8,8 +8,6 @@ mod messages;
 mod pair;
 mod run;
 mod scripts;
-#[cfg(test)]
-mod tests;
 
 pub use ends::{PairEnd, RunEnd};
 pub use run::{PairScripts, run_pair};

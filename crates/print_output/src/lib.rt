@@ -3,8 +3,6 @@
 
 mod pieces;
 mod printing;
-#[cfg(test)]
-mod tests;
 mod waiting;
 
 pub use printing::{give_printing, print};

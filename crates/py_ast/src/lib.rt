@@ -9,8 +9,6 @@ mod node;
 mod program;
 mod statement;
 mod target;
-#[cfg(test)]
-mod tests;
 
 pub use builtin::Builtin;
 pub use expression::{Comparison, Expression, Link};

@@ -5,7 +5,5 @@ mod changing;
 mod ends;
 mod operations;
 mod reading;
-#[cfg(test)]
-mod tests;
 
 pub use operations::{MOST_ENTRIES, change_dict, dict_method, dict_view, read_dict};

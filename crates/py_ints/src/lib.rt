@@ -6,8 +6,6 @@ mod arithmetic;
 mod arithmetic_laws;
 mod laws;
 mod reading;
-#[cfg(test)]
-mod tests;
 mod writing;
 
 pub use arithmetic::{IntEnd, int_binary, int_compare, int_unary};

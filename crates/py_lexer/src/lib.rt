@@ -8,8 +8,6 @@ mod literal;
 mod piece;
 mod reader;
 mod spelling;
-#[cfg(test)]
-mod tests;
 mod token;
 
 pub use laws::{

@@ -6,8 +6,6 @@ mod items;
 mod methods;
 mod operations;
 mod positions;
-#[cfg(test)]
-mod tests;
 
 pub use methods::MOST_ITEMS;
 pub use operations::{change_list, list_method, put_list, read_list, take_list};

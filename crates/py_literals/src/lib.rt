@@ -4,8 +4,6 @@
 mod int;
 mod item;
 mod laws;
-#[cfg(test)]
-mod tests;
 mod texts;
 
 pub use int::int_literal;

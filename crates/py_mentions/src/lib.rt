@@ -10,8 +10,6 @@ mod names;
 mod parts;
 mod place;
 mod surroundings;
-#[cfg(test)]
-mod tests;
 mod walk;
 mod worst;
 

@@ -8,8 +8,6 @@ mod gathering;
 mod signs;
 mod statements;
 mod targets;
-#[cfg(test)]
-mod tests;
 
 use crate::parts::{Form, Functions, Gathering, Sign, Stack, Tree, Word};
 use py_ast::{Expression, Link, Name, Node, Program, Statement};

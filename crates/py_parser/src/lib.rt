@@ -8,8 +8,6 @@ mod parts;
 mod reading;
 mod table;
 mod terminals;
-#[cfg(test)]
-mod tests;
 
 pub use laws::{a_text_has_one_answer, trees_are_numbered};
 pub use parsing::{ParseEnd, parse, parse_expr};

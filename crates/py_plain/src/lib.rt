@@ -7,8 +7,6 @@ mod ends;
 mod laws;
 mod order;
 mod repr;
-#[cfg(test)]
-mod tests;
 mod truth;
 mod unary;
 

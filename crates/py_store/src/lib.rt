@@ -7,8 +7,6 @@ mod key;
 mod laws;
 mod names;
 mod store;
-#[cfg(test)]
-mod tests;
 mod values;
 
 pub use cell::{Binding, Cell, Method, Which};

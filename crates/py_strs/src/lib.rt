@@ -10,8 +10,6 @@ mod replacing;
 mod searching;
 mod splitting;
 mod stripping;
-#[cfg(test)]
-mod tests;
 
 pub use ends::StrEnd;
 pub use joining::join_texts;

@@ -9,9 +9,6 @@ use crate::StrEnd;
 use std::alloc::AllocError;
 use ucd_category::{GeneralCategory, GeneralCategoryGroup};
 
-#[cfg(test)]
-mod tests;
-
 /// Appends the repr of a text to `out`: the text in quotes, with escapes for what does not print.
 ///
 /// The quotes are single ones, or double ones where the text holds `'` and no `"`. A backslash stands before a backslash

@@ -6,8 +6,6 @@ mod judging;
 mod laws;
 mod lines;
 mod streams;
-#[cfg(test)]
-mod tests;
 
 pub use dumped::Dump;
 pub use laws::{

@@ -10,8 +10,6 @@ mod laws;
 mod operators;
 mod plain;
 mod rules;
-#[cfg(test)]
-mod tests;
 mod text;
 mod value;
 

@@ -8,8 +8,6 @@ mod joining;
 mod methods;
 mod searching;
 mod splitting;
-#[cfg(test)]
-mod tests;
 
 pub use answers::TextAnswer;
 pub use joining::join;

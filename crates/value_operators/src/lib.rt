@@ -9,8 +9,6 @@ mod membership;
 mod operators;
 mod positions;
 mod testing;
-#[cfg(test)]
-mod tests;
 mod tuples;
 
 pub use defined::is_defined;

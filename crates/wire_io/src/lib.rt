@@ -10,8 +10,6 @@ mod mem_sink;
 mod mem_wire;
 mod real;
 mod sink;
-#[cfg(test)]
-mod tests;
 mod wire;
 
 pub use ends::WireEnd;
