@@ -2,8 +2,6 @@
 #![tactic(auto)]
 
 #[cfg(test)]
-mod hosts;
-#[cfg(test)]
 mod ints;
 #[cfg(test)]
 mod plain;
