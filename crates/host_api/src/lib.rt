@@ -3,6 +3,8 @@
 
 mod host;
 mod list;
+#[cfg(test)]
+mod tests;
 
 pub use host::{Host, HostAnswer};
 pub use list::{call_at, has_at, name_at};

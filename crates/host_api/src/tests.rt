@@ -4,7 +4,8 @@ ghost use Rattle.rp_base.specs.declared.exceptions.ExcKind.TheVariants as kind;
 ghost use Rattle.rp_base.specs.declared.plain.Plain.TheVariants as plain;
 ghost use Rattle.host_api.specs.declared.host.HostAnswer.TheVariants as answer;
 
-use host_api::{Host, HostAnswer, call_at, has_at, name_at};
+use crate::host::{Host, HostAnswer};
+use crate::list::{call_at, has_at, name_at};
 use rp_base::{ExcKind, Plain, Raised};
 use sqlite_items::Items;
 use std::alloc::Global;
@@ -34,7 +35,7 @@ impl Host for Tally {
         func == "count"
     }
 
-    #[tactic(auto, using(host_api::proofs::Limits::empty_within))]
+    #[tactic(auto, using(crate::proofs::Limits::empty_within))]
     fn call(&mut self, alloc: Global, func: &str, args: &[Plain]) -> HostAnswer {
         if func != "count" {
             return HostAnswer::Raise(Raised {
@@ -56,7 +57,7 @@ fn number_of(answer: HostAnswer) -> Option<i128> {
 }
 
 /// What a call without arguments answers, where it is an int.
-#[tactic(auto, using(host_api::proofs::Limits::no_arguments))]
+#[tactic(auto, using(crate::proofs::Limits::no_arguments))]
 fn ask(hosts: &mut Vec<Box<dyn Host>>, at: usize, alloc: Global, func: &str) -> Option<i128>
     requires { at < vec_len hosts.old }
     ensures { vec_len hosts.new ≡ vec_len hosts.old }
