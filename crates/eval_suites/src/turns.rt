@@ -30,7 +30,17 @@ pub fn begin_turn(
     match test_at_once(alloc, store, texts, env, test, *fuel) {
         Some(tested) => {
             *fuel = tested.left;
-            go_round(alloc, stack, store, texts, env, test, body, tested.holds, fuel)
+            go_round(
+                alloc,
+                stack,
+                store,
+                texts,
+                env,
+                test,
+                body,
+                tested.holds,
+                fuel,
+            )
         }
         None => begin_while(stack, env, test, body),
     }

@@ -163,7 +163,12 @@ fn begin_member_of(machine: &mut Machine, env: Env, number: u32) -> Result<Next,
 }
 
 #[inline(never)]
-pub(crate) fn begin_node(alloc: Global, machine: &mut Machine, env: Env, number: u32) -> Result<Next, NoMemory>
+pub(crate) fn begin_node(
+    alloc: Global,
+    machine: &mut Machine,
+    env: Env,
+    number: u32,
+) -> Result<Next, NoMemory>
     ensures means { IfOk result (λ next. GoesOn machine.old (node_rule env number) machine.new next) }
     ensures light { IfOk result (λ next. IsLight machine.new.stack.items next machine.old.stack.items) }
 {

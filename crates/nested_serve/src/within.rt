@@ -13,9 +13,7 @@ use crate::running::{begin_node, give_frame};
 use eval_exprs::give_expression;
 use eval_frames::{ExpressionFrame, Frame, Next, StatementFrame, node_at};
 use eval_stmts::end_turn;
-use eval_suites::{
-    begin_turn, branch, call_within, execute_waiting, gather_within, return_value,
-};
+use eval_suites::{begin_turn, branch, call_within, execute_waiting, gather_within, return_value};
 use object_operations::{Completion, Env};
 use py_ast::{Node, Statement};
 use rp_base::{NoMemory, Value};
@@ -35,11 +33,15 @@ pub(crate) fn begin_within(
     ensures spent { fuel.new ≤ fuel.old }
 {
     match node_at(&machine.texts, env, number) {
-        Some(&Node::Statement(Statement::If {
-            test,
-            then,
-            otherwise,
-        })) => branch(
+        Some(
+            &Node::Statement(
+                Statement::If {
+                    test,
+                    then,
+                    otherwise,
+                },
+            ),
+        ) => branch(
             alloc,
             &mut machine.stack,
             &mut machine.store,

@@ -6,7 +6,7 @@ use Rattle.eval_suites.proofs.suites.execute_waiting.Goals as goal
 pub statements-preserved : goal.statements-preserved
 statements-preserved c = (
   one_more c.args.texts.now c.args.store.now c.statements.store c.execute.new.store (executes_all c.args.env (reverse c.args.waiting)) c.args.env c.in-Some.number c.statements.waiting c.pop.new.self c.args.fuel.now c.statements.fuel c.in-Some-execute.left
-  c.in-Some.ensures c.statements.invariant.1 c.statements.invariant.0 c.in-Some-execute.ensures,
+      c.in-Some.ensures c.statements.invariant.1 c.statements.invariant.0 c.in-Some-execute.ensures,
   omega (arith, c.in-Some-execute.ensures.1, c.statements.invariant.1),
   c.statements.invariant.2,
 )
