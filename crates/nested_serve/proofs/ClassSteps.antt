@@ -1,5 +1,5 @@
 -- Frames of class bodies, and searches that change a list.
-use Rattle.std.proofs.Common.{◌≡◌, ℕ, List, length, reverse, Result, Ok, Err, IfOk, sym, subst}
+use Rattle.std.proofs.Common.{◌≡◌, ℕ, List, reverse, Result, Ok, Err, IfOk, sym, subst}
 use Rattle.rp_base.specs.declared.ends.NoMemory.{NoMemory}
 use Rattle.rp_base.specs.declared.value.Value.{Value}
 use Rattle.py_ast.specs.declared.program.Program.{Program}
