@@ -1427,7 +1427,7 @@ print("a" in q%s, 2 in q%s.values(), "d" in q%s.keys(), len(q%s.items()), bool(q
             o("print(%s %s %s)" % (v, self.pick(["<", "<=", ">", ">="]), self.inst(c, sc, 1) if self.p(0.7) else e("int")))
         elif a == "aug":
             n = self.writable(sc, ("inst", c))
-            op = self.pick([x for x in sorted(c.add) if x != "neg"] or ["+"])
+            op = self.pick([x for x in sorted(c.add) if x not in ("neg", "/")] or ["+"])
             if n:
                 o("%s %s= %s" % (n, op, e("int") if self.p(0.7) else self.inst(c, sc, 1)))
             o("print(%s)" % v)
